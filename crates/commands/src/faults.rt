@@ -1,4 +1,5 @@
 //! The program's faults, and their messages.
+use crate::arguments::Argument;
 use desk::ListFault;
 use keeper::KeepFault;
 use office::DeskFault;
@@ -8,9 +9,9 @@ use thiserror::Error;
 /// Why the program could not do its task. The message follows `drop: ` on the line.
 #[derive(Debug, Drop, Error)]
 pub enum Fault {
-    /// The argument of this name is malformed.
+    /// The value of this argument is malformed.
     #[error("malformed value: {0}")]
-    MalformedValue(&'static str),
+    MalformedValue(Argument),
     /// The file with the secret could not be opened or read.
     #[error("cannot read the secret")]
     CannotReadSecret,

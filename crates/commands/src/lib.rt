@@ -1,6 +1,7 @@
 //! What each command does to an office, over any keeper.
 #![tactic(auto)]
 
+mod arguments;
 mod desking;
 mod exporting;
 mod faults;
@@ -17,6 +18,7 @@ mod signing;
 mod watching;
 mod work;
 
+pub use arguments::Argument;
 pub use desking::{DeskWork, read_command, tell};
 pub use exporting::ExportWork;
 pub use faults::Fault;

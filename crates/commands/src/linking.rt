@@ -1,4 +1,5 @@
 //! `drop link`: writes a link, signed with a key.
+use crate::arguments::Argument;
 use crate::faults::Fault;
 use crate::signing::KeyWork;
 use crate::work::{Done, say};
@@ -61,17 +62,17 @@ pub struct Order {
 /// Reads the arguments. Fails if one is malformed.
 pub fn read_order(alloc: Global, words: &Link<'_>) -> Result<Order, Fault> {
     let Some(method) = Method::read(words.method.as_bytes()) else {
-        return Err(Fault::MalformedValue("method"));
+        return Err(Fault::MalformedValue(Argument::Method));
     };
     if !is_target(alloc, method, words.target.as_bytes())? {
-        return Err(Fault::MalformedValue("target"));
+        return Err(Fault::MalformedValue(Argument::Target));
     }
-    let start = read_moment(words.start.as_bytes()).ok_or(Fault::MalformedValue("start"))?;
+    let start = read_moment(words.start.as_bytes()).ok_or(Fault::MalformedValue(Argument::Start))?;
     check_place(words.host.as_bytes(), words.region.as_bytes())?;
     let expires = words
         .expires
         .parse::<u64>()
-        .map_err(|_| Fault::MalformedValue("expires"))?;
+        .map_err(|_| Fault::MalformedValue(Argument::Expires))?;
     Ok(Order {
         method,
         start,
@@ -82,10 +83,10 @@ pub fn read_order(alloc: Global, words: &Link<'_>) -> Result<Order, Fault> {
 /// Fails if the host or the region is malformed.
 pub fn check_place(host: &[u8], region: &[u8]) -> Result<(), Fault> {
     if !is_host(host) {
-        return Err(Fault::MalformedValue("host"));
+        return Err(Fault::MalformedValue(Argument::Host));
     }
     if !is_region(region) {
-        return Err(Fault::MalformedValue("region"));
+        return Err(Fault::MalformedValue(Argument::Region));
     }
     Ok(())
 }
@@ -136,11 +137,11 @@ fn line_of(
 fn unwritten(fault: LinkFault) -> Fault {
     match fault {
         LinkFault::Memory => Fault::OutOfMemory,
-        LinkFault::Method => Fault::MalformedValue("method"),
-        LinkFault::Path | LinkFault::Params | LinkFault::Headers => Fault::MalformedValue("target"),
-        LinkFault::Host => Fault::MalformedValue("host"),
-        LinkFault::Region => Fault::MalformedValue("region"),
-        LinkFault::Expires => Fault::MalformedValue("expires"),
+        LinkFault::Method => Fault::MalformedValue(Argument::Method),
+        LinkFault::Path | LinkFault::Params | LinkFault::Headers => Fault::MalformedValue(Argument::Target),
+        LinkFault::Host => Fault::MalformedValue(Argument::Host),
+        LinkFault::Region => Fault::MalformedValue(Argument::Region),
+        LinkFault::Expires => Fault::MalformedValue(Argument::Expires),
         LinkFault::Key => Fault::UnknownKey,
     }
 }

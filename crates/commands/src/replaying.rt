@@ -4,6 +4,7 @@ ghost use Rattle.std.specs.Io.KnownBytes.{Keeps};
 ghost use Rattle.commands.specs.Replaying.{IsMemory, ReplaysNew};
 ghost use Rattle.sigv4.specs.Dates.{WritesMoment};
 
+use crate::arguments::Argument;
 use crate::faults::Fault;
 use crate::work::{Done, OfficeWork};
 use cache::CachedKeeper;
@@ -51,9 +52,9 @@ fn read_words<'a>(words: &Replay<'a>) -> Result<((&'a [u8], &'a [u8]), Moment), 
     ensures moment { IfOk result (λ read. WritesMoment words.now.at.now read.1) }
 {
     let Some(key) = read_key(words.file) else {
-        return Err(Fault::MalformedValue("file"));
+        return Err(Fault::MalformedValue(Argument::File));
     };
-    let moment = read_moment(words.at.as_bytes()).ok_or(Fault::MalformedValue("at"))?;
+    let moment = read_moment(words.at.as_bytes()).ok_or(Fault::MalformedValue(Argument::At))?;
     Ok((key, moment))
 }
 

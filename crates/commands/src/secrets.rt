@@ -2,6 +2,7 @@
 ghost use Rattle.std.specs.Prelude.{IfOk, IsOk};
 ghost use Rattle.sigv4.specs.Credential.{IsSecret};
 
+use crate::arguments::Argument;
 use crate::faults::Fault;
 use sigv4::is_secret;
 use std::fs;
@@ -18,7 +19,7 @@ pub fn check_secret(secret: &[u8]) -> Result<(), Fault>
     if is_secret(secret) {
         Ok(())
     } else {
-        Err(Fault::MalformedValue("secret"))
+        Err(Fault::MalformedValue(Argument::Secret))
     }
 }
 
@@ -32,7 +33,7 @@ pub fn read_secret_file(rt: &HostRuntime, name: &str) -> Result<Vec<u8>, Fault>
     };
     let line = match read_line(rt.alloc(), file, LONGEST_SECRET) {
         Ok(Some(line)) => line,
-        Ok(None) => return Err(Fault::MalformedValue("secret")),
+        Ok(None) => return Err(Fault::MalformedValue(Argument::Secret)),
         Err(error) => return Err(unread(error)),
     };
     check_secret(line.as_slice())?;

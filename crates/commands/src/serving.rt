@@ -3,6 +3,7 @@ ghost use Rattle.std.specs.Prelude.{IsOk, IsOkAnd};
 ghost use Rattle.commands.specs.Serving.{IsFine, MayServe};
 ghost use Rattle.commands.specs.Working.{Passes};
 
+use crate::arguments::Argument;
 use crate::faults::Fault;
 use crate::outside::Outside;
 use crate::work::OfficeWork;
@@ -95,19 +96,19 @@ impl<W: Write + Drop, N: Outside + Drop> OfficeWork for ServeWork<'_, W, N> {
 
 /// Reads the arguments. Fails if one is malformed.
 pub fn read_service<'a>(words: &Serve<'a>) -> Result<Service<'a>, Fault> {
-    let address = read_address(words.listen).ok_or(Fault::MalformedValue("listen"))?;
+    let address = read_address(words.listen).ok_or(Fault::MalformedValue(Argument::Listen))?;
     let Ok(connections) = words.connections.parse::<u64>() else {
-        return Err(Fault::MalformedValue("connections"));
+        return Err(Fault::MalformedValue(Argument::Connections));
     };
     let Ok(seconds) = words.patience.parse::<u64>() else {
-        return Err(Fault::MalformedValue("patience"));
+        return Err(Fault::MalformedValue(Argument::Patience));
     };
     let patience = match seconds {
         0 => None,
         _ => Some(Duration::from_secs(seconds)),
     };
     let Ok(open) = words.open.parse::<usize>() else {
-        return Err(Fault::MalformedValue("open"));
+        return Err(Fault::MalformedValue(Argument::Open));
     };
     Ok(Service {
         file: words.file,

@@ -1,6 +1,7 @@
 //! Signing with a key, whose secret is in an office or in a file.
 ghost use Rattle.std.specs.Prelude.{IsOk};
 
+use crate::arguments::Argument;
 use crate::faults::Fault;
 use crate::secrets::read_secret_file;
 use crate::work::{Done, OfficeWork};
@@ -68,7 +69,7 @@ pub fn sign_by_file<W: KeyWork + Drop>(
 ) -> Done<W::Out> {
     let id = id.as_bytes();
     if !is_key_id(id) {
-        return work.refuse(Fault::MalformedValue("key"));
+        return work.refuse(Fault::MalformedValue(Argument::Key));
     }
     match read_secret_file(rt, name) {
         Ok(secret) => {

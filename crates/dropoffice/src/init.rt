@@ -13,7 +13,7 @@ ghost use Rattle.dropoffice.specs.Performing.{IsFirstRow, IsGivenSecret, IsSecre
 
 use crate::opening::{Left, Purpose, Worked, connect, end_work, unfit, unopened_with};
 use boxes::OfficeRow;
-use commands::{Fault, check_secret, read_secret_file};
+use commands::{Argument, Fault, check_secret, read_secret_file};
 use sigv4::{Allowance, is_key_id};
 use sqlite::{Alter, Connection, FileFrom, Start};
 use sqlkeeper::SqlKeeper;
@@ -87,14 +87,14 @@ fn read_office(words: &Init<'_>) -> Result<OfficeRow, Fault>
     ensures secret { IfOk result (λ office. IsGivenSecret words.now.secret) }
 {
     if !is_key_id(words.clerk.as_bytes()) {
-        return Err(Fault::MalformedValue("clerk"));
+        return Err(Fault::MalformedValue(Argument::Clerk));
     }
     if let Secret::Given(text) = words.secret {
         check_secret(text.as_bytes())?;
     }
-    let east = minutes_of(words.east).ok_or(Fault::MalformedValue("east"))?;
-    let west = minutes_of(words.west).ok_or(Fault::MalformedValue("west"))?;
-    let allowance = allowance_of(words.allowance).ok_or(Fault::MalformedValue("allowance"))?;
+    let east = minutes_of(words.east).ok_or(Fault::MalformedValue(Argument::East))?;
+    let west = minutes_of(words.west).ok_or(Fault::MalformedValue(Argument::West))?;
+    let allowance = allowance_of(words.allowance).ok_or(Fault::MalformedValue(Argument::Allowance))?;
     Ok(OfficeRow {
         east: east - west,
         allowance,

@@ -9,7 +9,7 @@ ghost use Rattle.dropoffice.specs.Leaving.{IsCleanLeft, IsClosed};
 ghost use Rattle.dropoffice.specs.Performing.{MayMigrate};
 
 use crate::opening::{
-    Left, Purpose, Worked, connect, end_work, require_file, unfit, unopened_with,
+    Left, Purpose, Worked, connect, end_work, require_file, unclosed, unfit, unopened_with,
 };
 use crate::works::failed;
 use commands::{Done, Fault, tell};
@@ -41,7 +41,7 @@ pub(crate) fn do_migrate<S: Start, W: Write + Drop>(
         Ok(conn) => {
             let (closed, left) = end_work(conn, Purpose::Change);
             Worked {
-                gain: tell(closed, out),
+                gain: tell(closed.map_err(unclosed), out),
                 closed: Ok(()),
                 left: Some(left),
             }

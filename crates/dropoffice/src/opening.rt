@@ -71,8 +71,8 @@ fn options(rt: &HostRuntime, purpose: Purpose) -> Result<Options, Fault> {
     Ok(options)
 }
 
-// Why a database could not be closed.
-fn unclosed(error: Error) -> Fault {
+/// Why a database could not be closed.
+pub(crate) fn unclosed(error: Error) -> Fault {
     match error {
         Error::SqliteFailure(ErrorCode::OutOfMemory) => Fault::OutOfMemory,
         _ => Fault::Store,
@@ -175,11 +175,11 @@ pub enum Left<D: Disk> {
     Unclosed(FileStore<D>),
 }
 
-// Ends the work on an office file.
+// Ends the work on an office file. The error means that it could not be closed.
 pub(crate) fn end_work<D: Disk + Drop>(
     conn: Connection<FileStore<D>>,
     purpose: Purpose,
-) -> (Result<(), Fault>, Left<D>)
+) -> (Result<(), Error>, Left<D>)
     ensures closed { IsOk result.0 → purpose ≢ Purpose.Look → IsClosed (Some result.1) }
     ensures clean { IsCleanLeft result.1 → HasCleanDisk (file_state conn) }
     ensures leaves { IsCleanLeft result.1 → (s : State) → KeepsState (file_state conn) s
@@ -191,7 +191,7 @@ pub(crate) fn end_work<D: Disk + Drop>(
         Purpose::Look => (Ok(()), Left::Looked(conn)),
         Purpose::Change | Purpose::Serve => match conn.close_files() {
             Ok(files) => (Ok(()), Left::Closed(files)),
-            Err((error, store)) => (Err(unclosed(error)), Left::Unclosed(store)),
+            Err((error, store)) => (Err(error), Left::Unclosed(store)),
         },
     }
 }
@@ -202,7 +202,7 @@ pub(crate) struct Worked<G: Drop, D: Disk> {
     /// What the work gives.
     pub(crate) gain: G,
     /// Whether the file was closed, if it was to be.
-    pub(crate) closed: Result<(), Fault>,
+    pub(crate) closed: Result<(), Error>,
     /// What is left.
     pub(crate) left: Option<Left<D>>,
 }

@@ -9,7 +9,7 @@ ghost use Rattle.dropoffice.specs.Performing.{LeavesFile, Performs};
 
 use crate::init::do_init;
 use crate::migrating::do_migrate;
-use crate::opening::{Left, Worked};
+use crate::opening::{Left, Worked, unclosed};
 use crate::works::{
     do_compare, do_desk, do_export, do_link, do_links, do_list, do_manifest, do_replay, do_serve,
 };
@@ -17,7 +17,7 @@ use clap::Error as WordsError;
 use clap::error::ErrorKind;
 use commands::{Done, Fault, Outside, Session};
 use sockets::{Listener, Served};
-use sqlite::{FileFrom, Start};
+use sqlite::{Error, FileFrom, Start};
 use sqlite_disk::Disk;
 use std::io::{Read, Write};
 use tasks::Task;
@@ -61,30 +61,33 @@ struct Ended<W, L, E, C, D: Disk> {
 fn plain<W, L, E, C, D: Disk>(
     worked: Worked<Result<(), Fault>, D>,
 ) -> Ended<W, L, E, C, D>
-    ensures done { IsOk result.result → IsOk worked.entry.gain × IsOk worked.entry.closed }
-    ensures left { result.left ≡ worked.entry.left }
+    ensures done { IsOk result.result → IsOk worked.gain × IsOk worked.closed }
+    ensures left { result.left ≡ worked.left }
 {
+    let Worked { gain, closed, left } = worked;
     Ended {
-        result: worked.gain.and(worked.closed),
+        result: unless_unclosed(gain, closed),
         out: None,
         served: None,
         clock: None,
-        left: worked.left,
+        left,
     }
 }
 
 // The end of a task that has an output.
 fn spoken<W: Drop, L, E, C, D: Disk>(worked: Worked<Done<W>, D>) -> Ended<W, L, E, C, D>
-    ensures done { IsOk result.result → IsOk worked.entry.gain.result × IsOk worked.entry.closed }
-    ensures out { result.out ≡ worked.entry.gain.out }
-    ensures left { result.left ≡ worked.entry.left }
+    ensures done { IsOk result.result → IsOk worked.gain.result × IsOk worked.closed }
+    ensures out { result.out ≡ worked.gain.out }
+    ensures left { result.left ≡ worked.left }
 {
+    let Worked { gain, closed, left } = worked;
+    let Done { result, out } = gain;
     Ended {
-        result: worked.gain.result.and(worked.closed),
-        out: worked.gain.out,
+        result: unless_unclosed(result, closed),
+        out,
         served: None,
         clock: None,
-        left: worked.left,
+        left,
     }
 }
 
@@ -92,17 +95,34 @@ fn spoken<W: Drop, L, E, C, D: Disk>(worked: Worked<Done<W>, D>) -> Ended<W, L, 
 fn served<W, L: Drop, E: Drop, C: Drop, D: Disk>(
     worked: Worked<Session<L, E, C>, D>,
 ) -> Ended<W, L, E, C, D>
-    ensures done { IsOk result.result → IsOk worked.entry.gain.result × IsOk worked.entry.closed }
-    ensures served { result.served ≡ worked.entry.gain.served }
-    ensures clock { result.clock ≡ worked.entry.gain.clock }
-    ensures left { result.left ≡ worked.entry.left }
+    ensures done { IsOk result.result → IsOk worked.gain.result × IsOk worked.closed }
+    ensures served { result.served ≡ worked.gain.served }
+    ensures clock { result.clock ≡ worked.gain.clock }
+    ensures left { result.left ≡ worked.left }
 {
+    let Worked { gain, closed, left } = worked;
+    let Session {
+        result,
+        served,
+        clock,
+    } = gain;
     Ended {
-        result: worked.gain.result.and(worked.closed),
+        result: unless_unclosed(result, closed),
         out: None,
-        served: worked.gain.served,
-        clock: worked.gain.clock,
-        left: worked.left,
+        served,
+        clock,
+        left,
+    }
+}
+
+// The same result. It is a fault if the file could not be closed.
+fn unless_unclosed(done: Result<(), Fault>, closed: Result<(), Error>) -> Result<(), Fault>
+    ensures { IsOk result → IsOk done × IsOk closed }
+{
+    match (done, closed) {
+        (Ok(()), Ok(())) => Ok(()),
+        (Ok(()), Err(error)) => Err(unclosed(error)),
+        (Err(fault), _) => Err(fault),
     }
 }
 
@@ -196,7 +216,7 @@ pub fn perform<
 
 // Writes a fault's line, and returns the status. If that write fails too, only the status tells.
 fn status_of<E: Write>(done: Result<(), Fault>, err: &mut E) -> u8
-    ensures { result ≡ 0 → IsOk done.entry }
+    ensures { result ≡ 0 → IsOk done }
 {
     match done {
         Ok(()) => DONE,

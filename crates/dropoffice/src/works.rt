@@ -8,7 +8,7 @@ ghost use Rattle.dropoffice.specs.Performing.{Answers, Commands, IsNoKey, IsNoMe
 
 use crate::opening::{Purpose, Worked, require_file, unopened_with, work_over};
 use commands::{
-    CompareWork, DeskWork, Done, ExportWork, Fault, KeyWork, LinkWork, LinksWork, ListWork,
+    Argument, CompareWork, DeskWork, Done, ExportWork, Fault, KeyWork, LinkWork, LinksWork, ListWork,
     ManifestWork, OfficeKey, Outside, PublishWork, ReplayWork, ServeWork, Session, Stock,
     check_place, read_command, read_order, read_service, replay_memory, sign_by_file,
 };
@@ -99,7 +99,7 @@ pub(crate) fn do_list<S: Start, W: Write + Drop>(
     ensures opened { IsOk result.gain.result → IsSome result.left }
 {
     let Some(stock) = Stock::named(words.what) else {
-        return unopened_with(failed(Fault::MalformedValue("what"), out));
+        return unopened_with(failed(Fault::MalformedValue(Argument::What), out));
     };
     work_over(
         rt,
@@ -200,7 +200,7 @@ pub(crate) fn do_replay<S: Start, W: Write + Drop>(
         return unopened_with(replay_memory(rt, words, out));
     }
     let Some(moment) = read_moment(words.at.as_bytes()) else {
-        return unopened_with(failed(Fault::MalformedValue("at"), out));
+        return unopened_with(failed(Fault::MalformedValue(Argument::At), out));
     };
     let streams = words.streams.as_slice();
     let work = ReplayWork {
