@@ -1,5 +1,5 @@
 -- What the clauses of a keeper come to if a crash left its state alone.
-use Rattle.std.proofs.Common.{◌≡◌, ◌∙◌, ◌⊎◌, ⊎_elim, inl, inr, Result, Ok, Err, refl, sym, subst, ℕ, List}
+use Rattle.std.proofs.Common.{◌≡◌, ◌∙◌, ◌⊎◌, ⊎_elim, inl, inr, Result, refl, sym, subst, ℕ}
 use Rattle.sigtext.specs.Request.{Request}
 use Rattle.boxes.specs.State.{State}
 use Rattle.keeper.specs.Bound.{StaysBy}
@@ -7,10 +7,10 @@ use Rattle.keeper.specs.declared.keep.KeepFault.{KeepFault}
 use Rattle.keeper.specs.declared.keep.Keeper.{Ghosts}
 use Rattle.office.specs.Crashes.{AddsAsked, AddsStanding, Lasts, changed, unchanged, Survives, no_change, some_change}
 use Rattle.office.specs.Crashes as crash
-use Rattle.office.specs.Premise.{IsLeft, WasKept}
-use Rattle.commands.specs.Asking.{Asked, IsLeftBy, IsOneMore, nothing}
+use Rattle.office.specs.Premise.{WasKept}
+use Rattle.commands.specs.Asking.{Asked, nothing}
 use Rattle.commands.specs.Listing.{Looks}
-use Rattle.commands.specs.Working.{Lands, Passes, StandsAlone}
+use Rattle.commands.specs.Working.{Passes, StandsAlone}
 
 asked_or : {A B C : Type 0} → (A → B) → A ⊎ (B ⊎ C) → B ⊎ C
 asked_or f (inl a) = inl (f a)

@@ -138,7 +138,9 @@ fn unwritten(fault: LinkFault) -> Fault {
     match fault {
         LinkFault::Memory => Fault::OutOfMemory,
         LinkFault::Method => Fault::MalformedValue(Argument::Method),
-        LinkFault::Path | LinkFault::Params | LinkFault::Headers => Fault::MalformedValue(Argument::Target),
+        LinkFault::Path | LinkFault::Params | LinkFault::Headers => Fault::MalformedValue(
+            Argument::Target,
+        ),
         LinkFault::Host => Fault::MalformedValue(Argument::Host),
         LinkFault::Region => Fault::MalformedValue(Argument::Region),
         LinkFault::Expires => Fault::MalformedValue(Argument::Expires),

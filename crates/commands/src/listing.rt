@@ -232,10 +232,7 @@ fn failed<W: Drop>(fault: Fault) -> Done<W>
 }
 
 // What a work gives behind a list. Flushes the buffer even if the list failed.
-fn told<W: Write + Drop>(
-    listed: Result<(), ListFault>,
-    writer: Counted<BufWriter<W>>,
-) -> Done<W>
+fn told<W: Write + Drop>(listed: Result<(), ListFault>, writer: Counted<BufWriter<W>>) -> Done<W>
     ensures { IsOk result.result → IsOk listed × ((out : W) × (result.out ≡ Some out)
         × Keeps (⟦<BufWriter<W> as Write>⟧.contents writer.inner) (W.contents out)) }
 {

@@ -48,8 +48,7 @@ pub struct PublishWork<'w, W: Drop, E: Drop, N: Drop> {
     pub outside: N,
 }
 
-impl<W: Write + Drop, E: Write + Drop, N: Outside + Drop> OfficeWork
-    for PublishWork<'_, W, E, N> {
+impl<W: Write + Drop, E: Write + Drop, N: Outside + Drop> OfficeWork for PublishWork<'_, W, E, N> {
     ghost use Rattle.std.specs.Prelude.{IsOk};
     ghost use Rattle.commands.specs.Serving.{MayServe};
 

@@ -1,5 +1,5 @@
 -- What an office file holds when a command opens it, and what the command's work makes of the open connection.
-use Rattle.std.specs.Prelude.{◌≡◌}
+use Rattle.std.specs.Prelude.{◌≡◌, IsTrue}
 use Rattle.sqlite.specs.Effect.{Database, IsDatabase}
 use Rattle.sqlite.specs.State.{State, HasCleanDisk}
 use Rattle.sqlite.specs.Files.{HoldsDatabase, AreFoundIn}
@@ -10,7 +10,7 @@ use Rattle.sqltables.specs.Kept.{KeepsState, LeavesStates, MayLeave, RowsKeep}
 use Rattle.boxes.specs.Sound.{IsSound}
 use Rattle.sqltables.specs.Means.{OfficeMeans}
 use Rattle.sqltables.specs.Schema.{v1}
-use Rattle.sqlaudit.specs.Opened.{AreShort, HasOurs, IsOurs}
+use Rattle.sqlaudit.specs.Opened.{AreShort, HasOurs, IsOurs, SeesSame}
 use Rattle.sqlkeeper.specs.Versions.{IsOfficeFile}
 use Rattle.commands.specs.Asking.{Asked, IsLeftBy}
 
@@ -28,6 +28,10 @@ pub record HoldsState (image : Image) (s : Office) : Type 0 where
 -- while the disk has returned what was written, the tables satisfy `HasOurs`
 abbrev pub WasOurs : State → Type 0
 WasOurs s = HasCleanDisk s → HasOurs s
+
+-- While the connection is open and the disk has returned what was written, that was so before, and the connection sees the same.
+abbrev pub StillSees : State → State → Type 0
+StillSees old new = HasCleanDisk new → IsTrue new.is_open → HasCleanDisk old × SeesSame old new
 
 -- The tables of a connection meant a sound state. A step led to the state that they mean now, and a crash leaves that state, or
 -- that state after one more of what was asked.

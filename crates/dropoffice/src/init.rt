@@ -59,10 +59,7 @@ pub(crate) fn do_init<S: Start>(
 }
 
 // The office's settings and the secret of its clerk.
-fn read_words(
-    rt: &HostRuntime,
-    words: &Init<'_>,
-) -> Result<(OfficeRow, Vec<u8>), Fault>
+fn read_words(rt: &HostRuntime, words: &Init<'_>) -> Result<(OfficeRow, Vec<u8>), Fault>
     ensures { IfOk result (λ read. IsFirstRow words.now read.0 read.1.items) }
 {
     let office = read_office(words)?;
@@ -92,9 +89,15 @@ fn read_office(words: &Init<'_>) -> Result<OfficeRow, Fault>
     if let Secret::Given(text) = words.secret {
         check_secret(text.as_bytes())?;
     }
-    let east = minutes_of(words.east).ok_or(Fault::MalformedValue(Argument::East))?;
-    let west = minutes_of(words.west).ok_or(Fault::MalformedValue(Argument::West))?;
-    let allowance = allowance_of(words.allowance).ok_or(Fault::MalformedValue(Argument::Allowance))?;
+    let Some(east) = minutes_of(words.east) else {
+        return Err(Fault::MalformedValue(Argument::East));
+    };
+    let Some(west) = minutes_of(words.west) else {
+        return Err(Fault::MalformedValue(Argument::West));
+    };
+    let allowance = allowance_of(words.allowance).ok_or(Fault::MalformedValue(
+        Argument::Allowance,
+    ))?;
     Ok(OfficeRow {
         east: east - west,
         allowance,

@@ -3,8 +3,7 @@ ghost use Rattle.std.specs.Prelude.{IfErr, IfOk, IfSome, IsOk};
 ghost use Rattle.sqlite.specs.State.{HasCleanDisk};
 ghost use Rattle.sqlite.specs.Held.{state};
 ghost use Rattle.sqlite.specs.WalFiles.{image_at};
-ghost use Rattle.sqlaudit.specs.Opened.{OnlyLooks};
-ghost use Rattle.dropoffice.specs.Holding.{HoldsOurs, MigratedOn, WasOurs};
+ghost use Rattle.dropoffice.specs.Holding.{HoldsOurs, MigratedOn, StillSees, WasOurs};
 ghost use Rattle.dropoffice.specs.Leaving.{IsCleanLeft, IsClosed};
 ghost use Rattle.dropoffice.specs.Performing.{MayMigrate};
 
@@ -61,7 +60,7 @@ fn migrate_over<S: Alter + Drop>(
 ) -> Result<Connection<S>, (Fault, Connection<S>)>
     ensures made { WasOurs (state S.Store conn) → IfOk result (λ made. HasCleanDisk (state S.Store made)
         → MigratedOn (state S.Store conn) (state S.Store made)) }
-    ensures looked { IfErr result (λ r. OnlyLooks (state S.Store conn) (state S.Store r.1)) }
+    ensures looked { IfErr result (λ r. StillSees (state S.Store conn) (state S.Store r.1)) }
 {
     match SqlKeeper::migrate(alloc, conn) {
         Ok(keeper) => Ok(keeper.close()),

@@ -7,12 +7,13 @@ ghost use Rattle.sqlite.specs.Start.{FindsIn};
 ghost use Rattle.sqlite.specs.WalFiles.{image_at};
 ghost use Rattle.boxes.specs.State.{State};
 ghost use Rattle.sqltables.specs.Kept.{KeepsState, LeavesStates};
-ghost use Rattle.sqlaudit.specs.Opened.{OnlyLooks};
 ghost use Rattle.dropoffice.specs.Leaving.{IsCleanLeft, IsClosed, IsLeftOf, IsUntouched, LeavesOffice, MayCrashTo, Ran};
-ghost use Rattle.dropoffice.specs.Holding.{HoldsOurs, RanOn, WasOurs};
+ghost use Rattle.dropoffice.specs.Holding.{HoldsOurs, RanOn, StillSees, WasOurs};
 
 use commands::{Fault, OfficeWork};
-use sqlite::{Alter, Connection, Error, ErrorCode, FileFrom, FileStore, Files, Leftover, Options, Start};
+use sqlite::{
+    Alter, Connection, Error, ErrorCode, FileFrom, FileStore, Files, Leftover, Options, Start,
+};
 use sqlite_disk::Disk;
 use sqlite_std_file::OpenError;
 use sqlkeeper::{OpenFault, SqlKeeper};
@@ -42,7 +43,10 @@ fn unopened<D: Disk>(error: Error, left: &Leftover<D>) -> Fault {
         (Error::SqliteFailure(ErrorCode::OutOfMemory), _) => Fault::OutOfMemory,
         (Error::SqliteFailure(ErrorCode::DatabaseBusy), _) => Fault::Held,
         (Error::SqliteFailure(ErrorCode::DatabaseCorrupt), _) => Fault::Damaged,
-        (Error::SqliteFailure(ErrorCode::NotADatabase), Leftover::Unopened(_) | Leftover::Store(_)) => Fault::Damaged,
+        (
+            Error::SqliteFailure(ErrorCode::NotADatabase),
+            Leftover::Unopened(_) | Leftover::Store(_),
+        ) => Fault::Damaged,
         _ => Fault::CannotOpen,
     }
 }
@@ -153,7 +157,7 @@ fn work_on<S: Alter + Drop, W: OfficeWork + Drop>(
     ensures ran { WasOurs (state S.Store conn) → IfOk result (λ r. HasCleanDisk (state S.Store r.1)
         → RanOn (state S.Store conn) (state S.Store r.1) (W.step work r.0)) }
     ensures idle { IfErr result (λ r. W.idle work r.0) }
-    ensures looked { IfErr result (λ r. OnlyLooks (state S.Store conn) (state S.Store r.1)) }
+    ensures looked { IfErr result (λ r. StillSees (state S.Store conn) (state S.Store r.1)) }
 {
     match SqlKeeper::open(rt.alloc(), conn) {
         Ok(keeper) => {

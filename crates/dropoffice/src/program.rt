@@ -58,9 +58,7 @@ struct Ended<W, L, E, C, D: Disk> {
 }
 
 // The end of a task that only has a result.
-fn plain<W, L, E, C, D: Disk>(
-    worked: Worked<Result<(), Fault>, D>,
-) -> Ended<W, L, E, C, D>
+fn plain<W, L, E, C, D: Disk>(worked: Worked<Result<(), Fault>, D>) -> Ended<W, L, E, C, D>
     ensures done { IsOk result.result → IsOk worked.gain × IsOk worked.closed }
     ensures left { result.left ≡ worked.left }
 {
@@ -168,13 +166,7 @@ fn end_task<S: Start, N: Outside + Drop, R: Read + Drop, W: Write + Drop, E: Wri
 /// clauses hold for each of them: what the command did between the state that the file held and the state that what is left
 /// means, what a crash now leaves, and what was written. They say nothing of paths, of other files, of the fault's line, or of a
 /// file that could not be opened.
-pub fn perform<
-    S: Start,
-    N: Outside + Drop,
-    R: Read + Drop,
-    W: Write + Drop,
-    E: Write + Drop,
->(
+pub fn perform<S: Start, N: Outside + Drop, R: Read + Drop, W: Write + Drop, E: Write + Drop>(
     rt: &HostRuntime,
     words: &[&str],
     input: R,

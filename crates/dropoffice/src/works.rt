@@ -8,8 +8,8 @@ ghost use Rattle.dropoffice.specs.Performing.{Answers, Commands, IsNoKey, IsNoMe
 
 use crate::opening::{Purpose, Worked, require_file, unopened_with, work_over};
 use commands::{
-    Argument, CompareWork, DeskWork, Done, ExportWork, Fault, KeyWork, LinkWork, LinksWork, ListWork,
-    ManifestWork, OfficeKey, Outside, PublishWork, ReplayWork, ServeWork, Session, Stock,
+    Argument, CompareWork, DeskWork, Done, ExportWork, Fault, KeyWork, LinkWork, LinksWork,
+    ListWork, ManifestWork, OfficeKey, Outside, PublishWork, ReplayWork, ServeWork, Session, Stock,
     check_place, read_command, read_order, read_service, replay_memory, sign_by_file,
 };
 use links::read_moment;

@@ -1,4 +1,4 @@
-use Rattle.std.proofs.Common.{inl, inr, refl}
+use Rattle.std.proofs.Common.{arith, inl, refl}
 use Rattle.sqlite.specs.Files.{file_state}
 use Rattle.dropoffice.proofs.Crashing.{left_of}
 use Rattle.dropoffice.proofs.Ended.{rows_kept}
@@ -22,4 +22,13 @@ returns-in-Ok g c =
     }
 
 pub returns-in-Err : goal.returns-in-Err
-returns-in-Err g c = ?
+returns-in-Err g c =
+    let now = file_state c.args.conn in
+    record {
+      closed = λ done changes. absurd (let same = done in cc);
+      clean = λ clean. omega (arith, c.in-Err.ensures.err.0.quiet.clean, clean);
+      leaves = λ clean s keeps. tt;
+      crash = λ clean s keeps whole trees left.
+          let quiet = c.in-Err.ensures.err.0.quiet in
+          left_of now s (omega (arith, quiet.clean, clean)) whole trees (quiet.outcomes trees left);
+    }

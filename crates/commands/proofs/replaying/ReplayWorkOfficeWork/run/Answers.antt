@@ -1,4 +1,4 @@
-use Rattle.std.proofs.Common.{refl, subst, sym}
+use Rattle.std.proofs.Common.{subst, sym}
 use Rattle.boxes.specs.Sound.{IsSound}
 use Rattle.cache.specs.Recalled.{Recalls}
 use Rattle.cache.specs.declared.cached_keeper.CachedKeeper.{CachedKeeper}
