@@ -27,6 +27,7 @@ from nginx import HOST, PAGE, SECONDS, Front, Office, certificate, next_answer, 
 from program import CANNOT_OPEN, difference
 from server import boto_client, open_office
 from shown import Case, lacks, of, receipt_facts
+from standins import INSTALL, RUNUSER, moved, put
 
 DEPLOY = kit.ROOT / "deploy"
 UNIT = DEPLOY / "drop.service"
@@ -463,18 +464,6 @@ read -r status <"$MACHINE/told"
 exit "$status"
 """
 ASKED = ["apt-get", "certbot", "chown", "systemctl", "nginx", "between"]
-RUNUSER = """#!/bin/sh
-[ "$1 $2 $3" = "-u drop --" ] || exit 9
-shift 3
-exec "$@"
-"""
-INSTALL = """#!/bin/sh
-for word; do
-    shift
-    case "$word" in -o | -g | drop | www-data | adm) ;; *) set -- "$@" "$word" ;; esac
-done
-exec /usr/bin/install "$@"
-"""
 
 
 class Machine:
@@ -490,15 +479,12 @@ class Machine:
         for name in ["crates", "deploy", "docs", "page"]:
             (self.root / "copy" / name).symlink_to(kit.ROOT / name)
         for name, text in [*((it, STAND_IN) for it in ASKED), ("runuser", RUNUSER), ("install", INSTALL)]:
-            file = self.root / "bin" / name
-            file.write_text(text)
-            file.chmod(0o755)
+            put(self.root / "bin", name, text)
         for name in ["asked", "told"]:
             os.mkfifo(self.root / name)
 
     def here(self, text):
-        """The text with the machine's paths moved into this folder."""
-        return re.sub(r"(?<![\w/.])/(etc|var|root|tmp|usr/share)(?=[/\s])", rf"{self.root}/\1", text + "\n").removesuffix("\n")
+        return moved(self.root, text)
 
     def path(self, name):
         return pathlib.Path(self.here(name))
