@@ -246,7 +246,7 @@ def test_lengths(check):
     """The lengths of definitions in docs/PROVED.md, in lines to the nearest ten; small differences pass."""
     text = PROVED.read_text()
     rows = re.findall(r"^\| (\d+) \| ([^|]+) \| (\d+) \| [^|]+ \|$", text, re.MULTILINE)
-    check("numbers of definitions", difference([int(it[0]) for it in rows], [*range(1, 17)]))
+    check("numbers of definitions", difference([int(it[0]) for it in rows], [*range(1, 18)]))
     found = [(number, length(modules), int(said)) for number, modules, said in rows]
     for number, lines, said in found:
         check(f"definitions {number}", None if abs(lines - said) <= 10 else f"have {lines} lines and not {said}")
