@@ -1,4 +1,4 @@
--- What a command does to the office file that its words name. Done: it succeeded.
+-- What a command does to the office file that its words name. Done: it succeeded, or more.
 use Rattle.std.specs.Prelude.{◌≡◌, ◌≢◌, ◌⊎◌, ◌++◌, ℕ, pos, neg_ℤ, ◌≤ℤ◌, List, length, codes, Option, IsSome, ⊤}
 use Rattle.sqlite_disk.specs.declared.Disk as disk
 use Rattle.sqlite.specs.Effect.{IsDatabase}
@@ -34,7 +34,7 @@ use Rattle.commands.specs.declared.listing.Stock.{Stock}
 use Rattle.dropoffice.specs.Leaving.{IsClosed, IsUntouched, LeavesOffice, MayCrashTo, Migrated, Ran}
 use Rattle.dropoffice.specs.declared.opening.Left.{Left}
 
--- the command ran, or the office could not be opened: it failed, and the file is as it was
+-- The command ran. Or it failed, and the connection, while it is open, shows what the files held; of a crash nothing is said then.
 abbrev pub MayRun : {D : Type 0} {g : disk.Ghosts D} → Image → Left D g → Type 0 → (Office → Office → Asked → Type 0) → Type 0
 MayRun image left Done Step = Ran image left Step ⊎ ((Done → ⊥) × IsUntouched image left)
 
@@ -61,7 +61,7 @@ pub record Answers {W : Type 0} (words : Replay) (contents : W → Option (List 
   pub is_moment : WritesMoment words.at.now moment
   pub replays : ReplaysAll contents (length words.streams.items) moment Done old new s after asked
 
--- `drop serve`: under the limits of its words
+-- `drop serve`, under some limits; no clause says that they are those of its words
 pub record Serves {L S E C : Type 0} (listens : L → Type 0) (begins : C → Type 0) (gives : C → ℕ → C → Type 0) (told : L → List (Event S E) → Type 0) (are_ends : S → E → E → Type 0)
     (remaining : Gathered E → Option (List ℕ)) (contents : Outbox E → Option (List ℕ)) (Done : Type 0) (served : Option (Served L E)) (clock : Option C)
     (s after : Office) (asked : Asked) : Type 0 where
@@ -84,7 +84,7 @@ abbrev pub IsSecretOf : Secret → List ℕ → Type 0
 IsSecretOf (secret.Given text) bytes = IsSecret bytes × (bytes ≡ text.now)
 IsSecretOf (secret.InFile name) bytes = IsSecret bytes
 
--- the settings and the secret of a new office, by the words
+-- The settings and the secret of a new office, by the words. Of the settings it only says that the offset is a possible one.
 pub record IsFirstRow (words : Init) (office : OfficeRow) (bytes : List ℕ) : Type 0 where
   pub clerk : IsKeyId words.clerk.now
   pub from : neg_ℤ (pos 840) ≤ℤ office.east
@@ -98,8 +98,8 @@ pub record HoldsBare (image : Image) : Type 0 where
   pub holds : (db : Trees) → HoldsDatabase image db → trees ≡ db
   pub bare : IsDatabase (record { schema = s0; trees = trees })
 
--- The files held no tables. What is left means the first state of the office that the words name, and nothing else, also after a
--- crash.
+-- The files held no tables. What is left means the first state with such settings, with the clerk's key of the words, and nothing
+-- else, also after a crash.
 pub record Made {D : Type 0} {g : disk.Ghosts D} (words : Init) (image : Image) (rest : Left D g) : Type 0 where
   pub held : HoldsBare image
   pub office : OfficeRow
@@ -133,8 +133,8 @@ IsNoKey file = (rest : List ℕ) → file ≢ codes "key:" ++ rest
 abbrev pub IsNoMemory : List ℕ → Type 0
 IsNoMemory file = (rest : List ℕ) → file ≢ codes "memory:" ++ rest
 
--- What is left of the file if the task is done. A task that may change an office closes it; one that only looks leaves it open,
--- and one that needs no office leaves nothing.
+-- What is left of the file if the task is done. A task that may change an office closes it; one that only looks hands something
+-- back. Of one that needs no office nothing is said.
 abbrev pub LeavesFile : {D : Type 0} {g : disk.Ghosts D} → Task → Option (Left D g) → Type 0
 LeavesFile (task.Init words) left = IsClosed left
 LeavesFile (task.Desk words) left = IsClosed left
