@@ -119,36 +119,34 @@ def fill(file, clerk):
 
 @dataclasses.dataclass(frozen=True)
 class Break:
-    """Statements that break a rule. The database itself may refuse the file if it is one of its own rules: a CHECK,
-    NOT NULL, the type of a column, or a reference."""
+    """Statements that break a rule: one of the database itself, such as a CHECK, or one of the office."""
 
     name: str
     statements: tuple
-    own: bool = False
 
 
-def broken(*statements, own=False, name=None):
-    return Break(name or "; ".join(statements)[:150], statements, own)
+def broken(*statements, name=None):
+    return Break(name or "; ".join(statements)[:150], statements)
 
 
-def set_to(table, column, value, where, own=False):
-    return broken(f"UPDATE {table} SET {column} = {value} WHERE {where}", own=own)
+def set_to(table, column, value, where):
+    return broken(f"UPDATE {table} SET {column} = {value} WHERE {where}")
 
 
 def office_breaks():
     yield broken("DELETE FROM office")
-    yield broken("INSERT INTO office SELECT 2, version, east FROM office", own=True)
-    yield set_to("office", "id", 2, "1", own=True)
+    yield broken("INSERT INTO office SELECT 2, version, east FROM office")
+    yield set_to("office", "id", 2, "1")
     for east in [-841, 841, 2**62]:
-        yield set_to("office", "east", east, "1", own=True)
+        yield set_to("office", "east", east, "1")
 
 
 def key_breaks():
     for name in ["''", "'a b'", "'k.2'", "'é'", f"'{'k' * 65}'", "'k2' || char(10)"]:
         yield set_to("keys", "id", name, "id = 'c2'")
     for number in [-1, 2]:
-        yield set_to("keys", "role", number, "id = 'k2'", own=True)
-        yield set_to("keys", "revoked", number, "id = 'k2'", own=True)
+        yield set_to("keys", "role", number, "id = 'k2'")
+        yield set_to("keys", "revoked", number, "id = 'k2'")
     for secret in ["x''", "x'20'", "x'7f'", "x'612062'", "x'80'", "x'00'", f"x'{'61' * 129}'"]:
         yield set_to("keys", "secret", secret, "id = 'k2'")
     yield set_to("keys", "revoked", 1, "role = 1")
@@ -161,14 +159,14 @@ def box_breaks():
         yield set_to("boxes", "name", name, unused)
     for column in ["opens", "closes"]:
         for moment in [-1, LAST + 1]:
-            yield set_to("boxes", column, moment, unused, own=True)
+            yield set_to("boxes", column, moment, unused)
     for days in ["''", "'111111'", "'11111111'", "'1111112'", "'111111 '", "'１111111'"]:
         yield set_to("boxes", "days", days, unused)
     for column, minute in [("from_minute", -1), ("from_minute", 1440), ("to_minute", 1439), ("to_minute", 1441)]:
-        yield set_to("boxes", column, minute, unused, own=True)
+        yield set_to("boxes", column, minute, unused)
     for column, most in [("quota", 10**12), ("max_files", 10**6), ("mode", 1), ("rule_kind", 2)]:
         for number in [-1, most + 1]:
-            yield set_to("boxes", column, number, unused, own=True)
+            yield set_to("boxes", column, number, unused)
     for kind, texts in [
         (0, ["'x'", "' '"]),
         (1, ["''", "','", "'a,,b'", "',a'", "'a,'", "'a b'", f"'{'a' * 33}'", "'1,2,3,4,5,6,7,8,9'", "'a' || char(127)"]),
@@ -192,7 +190,7 @@ def receipt_breaks():
     for number in [0, -3, 6, 4000000001]:
         yield set_to("receipts", "number", number, "number = 3")
     for column in ["box", "key_id"]:
-        yield set_to("receipts", column, "'none'", "number = 3", own=True)
+        yield set_to("receipts", column, "'none'", "number = 3")
     for name in ["''", "'a' || char(31) || '.txt'", "'a' || char(127) || '.txt'", f"'{'a' * 1021}.txt'", "'a.doc'",
                  "CAST(x'ff2e747874' AS TEXT)", "'a' || char(10) || '.txt'"]:
         yield set_to("receipts", "name", name, "number = 3")
@@ -202,13 +200,13 @@ def receipt_breaks():
     for digest in ["x''", f"x'{'00' * 31}'", f"x'{'00' * 33}'"]:
         yield set_to("receipts", "digest", digest, "number = 3")
     for moment in [-1, LAST + 1]:
-        yield set_to("receipts", "moment", moment, "number = 3", own=True)
+        yield set_to("receipts", "moment", moment, "number = 3")
 
 
 def file_breaks():
     yield set_to("files", "receipt", 3, "name = 'a.txt'")
-    yield set_to("files", "receipt", 99, "name = 'a.txt'", own=True)
-    yield set_to("files", "box", "'none'", "name = 'é ~'", own=True)
+    yield set_to("files", "receipt", 99, "name = 'a.txt'")
+    yield set_to("files", "box", "'none'", "name = 'é ~'")
     yield set_to("files", "name", "'b.txt'", "name = 'é ~'")
     yield set_to("files", "box", "'begins.1-2'", "name = 'é ~'")
     for column, value in [("length", 4), ("digest", f"x'{'00' * 32}'"), ("name", "'b.txt'"), ("box", "'ends'")]:
@@ -241,33 +239,33 @@ def piece_breaks():
         f"UPDATE pieces SET bytes = zeroblob({PIECE + 1}) WHERE name = 'y.txt' AND part = 0",
         "DELETE FROM pieces WHERE name = 'y.txt' AND part = 1", name="one piece that is too long",
     )
-    yield broken("INSERT INTO pieces VALUES ('in', 'none', 0, x'64')", own=True)
-    yield broken("INSERT INTO pieces VALUES ('none', 'a.txt', 0, x'64')", own=True)
+    yield broken("INSERT INTO pieces VALUES ('in', 'none', 0, x'64')")
+    yield broken("INSERT INTO pieces VALUES ('none', 'a.txt', 0, x'64')")
 
 
 def allowance_breaks():
     yield broken("DELETE FROM rules")
-    yield broken("INSERT INTO rules VALUES (2, 0)", own=True)
-    yield set_to("rules", "id", 2, "1", own=True)
+    yield broken("INSERT INTO rules VALUES (2, 0)")
+    yield set_to("rules", "id", 2, "1")
     for allowance in [-1, 901, 2**62]:
-        yield set_to("rules", "allowance", allowance, "1", own=True)
+        yield set_to("rules", "allowance", allowance, "1")
 
 
 def limit_breaks():
     yield broken("INSERT INTO key_box VALUES ('c2', 'in')")
     yield set_to("keys", "role", 1, "id = 'k3'")
     for column in ["key_id", "box"]:
-        yield set_to("key_box", column, "'none'", "box = 'in'", own=True)
+        yield set_to("key_box", column, "'none'", "box = 'in'")
 
 
 def table_breaks(tables):
     """A table is missing, has another name, or has an extra column. References of other tables to it then lead nowhere."""
     for table in tables:
-        yield broken(f"DROP TABLE {table}", own=table in ("keys", "boxes", "receipts", "files"))
-        yield broken(f"ALTER TABLE {table} RENAME TO other", own=True)
+        yield broken(f"DROP TABLE {table}")
+        yield broken(f"ALTER TABLE {table} RENAME TO other")
         yield broken(f"ALTER TABLE {table} ADD COLUMN other INTEGER")
     yield broken("CREATE TABLE other (id INTEGER PRIMARY KEY) STRICT")
-    yield broken("ALTER TABLE keys RENAME COLUMN secret TO other", own=True)
+    yield broken("ALTER TABLE keys RENAME COLUMN secret TO other")
     yield broken("ALTER TABLE pieces RENAME COLUMN part TO other")
 
 

@@ -86,7 +86,7 @@ with_command man man-db
 with_command objdump binutils
 
 # These have folders and ports of their own, and measure nothing: they run in parallel.
-beside=(ci/test_{rows,replays,office,migrate,desk,respelled,lists,exports,interop,documents,guards}.py)
+beside=(ci/test_{rows,replays,office,migrate,desk,respelled,lists,exports,interop,documents,guards,damage}.py)
 # These measure time or memory, load the machine, or need all of it: they run one by one, in parallel with no other tests.
 alone=(ci/test_{serve,kills,crowd,stops,page,clerk,memory,deploy,package}.py)
 
