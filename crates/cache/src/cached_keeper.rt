@@ -11,35 +11,37 @@ use std::alloc::Global;
 /// keeper. A change makes the cache forget what it may affect. An upload updates the totals and the next receipt number
 /// instead. After a fault the cache is emptied, so a store that shut itself is asked again and refuses.
 #[derive(Drop)]
-pub struct CachedKeeper<'k, K> {
-    pub(crate) keeper: &'k mut K,
+pub struct CachedKeeper<K> {
+    pub(crate) keeper: K,
     pub(crate) cache: Cache,
 }
 
-impl<'k, K: Keeper> CachedKeeper<'k, K> {
+impl<K: Keeper> CachedKeeper<K> {
     /// Wraps a keeper, with an empty cache.
-    pub fn new(alloc: Global, keeper: &'k mut K) -> CachedKeeper<'k, K>
-        ensures keeper { result.keeper.ghost_name ≡ keeper.entry.ghost_name }
-        ensures same { result.keeper.now ≡ keeper.entry.now }
-        ensures means { (s : State) → (⟦<CachedKeeper<'k, K> as Keeper>⟧.means result s
-            ↔ K.means keeper.entry.now s) }
-        ensures honest { ⟦<CachedKeeper<'k, K> as Keeper>⟧.is_honest result
-            ↔ K.is_honest keeper.entry.now }
-        ensures opened { ⟦<CachedKeeper<'k, K> as Keeper>⟧.is_open result
-            ↔ K.is_open keeper.entry.now }
-        ensures count { ⟦<CachedKeeper<'k, K> as Keeper>⟧.faults result ≡ K.faults keeper.entry.now }
-        ensures store { ⟦<CachedKeeper<'k, K> as Keeper>⟧.has_store ↔ K.has_store }
-        ensures staged { (bytes : List ℕ) → (⟦<CachedKeeper<'k, K> as Keeper>⟧.stages result bytes
-            ↔ K.stages keeper.entry.now bytes) }
-        ensures leaves { (t : State) → (⟦<CachedKeeper<'k, K> as Keeper>⟧.leaves result t
-            ↔ K.leaves keeper.entry.now t) }
-        ensures whole { ⟦<CachedKeeper<'k, K> as Keeper>⟧.leaves_whole result
-            ↔ K.leaves_whole keeper.entry.now }
+    pub fn new(alloc: Global, keeper: K) -> CachedKeeper<K>
+        ensures same { result.keeper ≡ keeper }
+        ensures means { (s : State) → (⟦<CachedKeeper<K> as Keeper>⟧.means result s ↔ K.means keeper s) }
+        ensures honest { ⟦<CachedKeeper<K> as Keeper>⟧.is_honest result ↔ K.is_honest keeper }
+        ensures opened { ⟦<CachedKeeper<K> as Keeper>⟧.is_open result ↔ K.is_open keeper }
+        ensures count { ⟦<CachedKeeper<K> as Keeper>⟧.faults result ≡ K.faults keeper }
+        ensures store { ⟦<CachedKeeper<K> as Keeper>⟧.has_store ↔ K.has_store }
+        ensures staged { (bytes : List ℕ) → (⟦<CachedKeeper<K> as Keeper>⟧.stages result bytes
+            ↔ K.stages keeper bytes) }
+        ensures leaves { (t : State) → (⟦<CachedKeeper<K> as Keeper>⟧.leaves result t ↔ K.leaves keeper t) }
+        ensures whole { ⟦<CachedKeeper<K> as Keeper>⟧.leaves_whole result ↔ K.leaves_whole keeper }
     {
         CachedKeeper {
             keeper,
             cache: Cache::new(alloc),
         }
+    }
+
+    /// Gives the inner keeper back.
+    pub fn into_inner(self) -> K
+        ensures { result ≡ self.keeper }
+    {
+        let CachedKeeper { keeper, cache: _ } = self;
+        keeper
     }
 }
 

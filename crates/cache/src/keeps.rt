@@ -6,21 +6,21 @@ use crate::cached_keeper::{CachedKeeper, or_forget};
 use boxes::{BoxRow, Change, FileRow, KeyRow, OfficeRow, ReceiptRow, Totals};
 use keeper::{KeepFault, Keeper};
 
-impl<K: Keeper> Keeper for CachedKeeper<'_, K> {
-    ghost means = { λ c s. K.means c.keeper.now s
-        × (K.is_honest c.keeper.now → IsSound s → Recalls c.cache s) };
+impl<K: Keeper> Keeper for CachedKeeper<K> {
+    ghost means = { λ c s. K.means c.keeper s
+        × (K.is_honest c.keeper → IsSound s → Recalls c.cache s) };
 
-    ghost stages = { λ c bytes. K.stages c.keeper.now bytes };
+    ghost stages = { λ c bytes. K.stages c.keeper bytes };
 
-    ghost is_honest = { λ c. K.is_honest c.keeper.now };
+    ghost is_honest = { λ c. K.is_honest c.keeper };
 
-    ghost is_open = { λ c. K.is_open c.keeper.now };
+    ghost is_open = { λ c. K.is_open c.keeper };
 
-    ghost faults = { λ c. K.faults c.keeper.now };
+    ghost faults = { λ c. K.faults c.keeper };
 
-    ghost leaves = { λ c s. K.leaves c.keeper.now s };
+    ghost leaves = { λ c s. K.leaves c.keeper s };
 
-    ghost leaves_whole = { λ c. K.leaves_whole c.keeper.now };
+    ghost leaves_whole = { λ c. K.leaves_whole c.keeper };
 
     ghost has_store = { K.has_store };
 
@@ -125,9 +125,9 @@ impl<K: Keeper> Keeper for CachedKeeper<'_, K> {
         or_forget(&mut self.cache, self.keeper.apply(change))
     }
 
-    ghost one = { λ c s t honest opened a b. K.one c.keeper.now s t honest opened a.0 b.0 };
+    ghost one = { λ c s t honest opened a b. K.one c.keeper s t honest opened a.0 b.0 };
 
-    ghost one_staged = { λ c a b honest opened x y. K.one_staged c.keeper.now a b honest opened x y };
+    ghost one_staged = { λ c a b honest opened x y. K.one_staged c.keeper a b honest opened x y };
 
-    ghost always = { λ none c. K.always none c.keeper.now };
+    ghost always = { λ none c. K.always none c.keeper };
 }

@@ -10,7 +10,7 @@ use trials::boxed::{add_box, office_row, settings};
 use trials::published::{ID, SECRET};
 use trials::watched::Watched;
 
-type Cached<'k> = CachedKeeper<'k, Watched<Shelf>>;
+type Cached = CachedKeeper<Watched<Shelf>>;
 
 // An office with a link key `lin` and boxes `in` and `out`. Its counters are zero.
 fn office(alloc: Global) -> Result<Watched<Shelf>, Fail> {
@@ -29,6 +29,18 @@ fn office(alloc: Global) -> Result<Watched<Shelf>, Fail> {
     Ok(Watched::new(shelf))
 }
 
+// A cached keeper around this one.
+fn cached(alloc: Global) -> Result<Cached, Fail> {
+    Ok(CachedKeeper::new(alloc, office(alloc)?))
+}
+
+// The same, where the inner keeper refuses the call of this number.
+fn refusing(alloc: Global, call: u64) -> Result<Cached, Fail> {
+    let mut within = office(alloc)?;
+    within.refuse(call);
+    Ok(CachedKeeper::new(alloc, within))
+}
+
 // The change that sets the three-byte file `a` of the box `in`.
 fn sets(number: u64) -> Change<'static> {
     Change::SetFile(NewFile {
@@ -43,7 +55,7 @@ fn sets(number: u64) -> Change<'static> {
 }
 
 // Asks for everything that can be cached, and returns the answers as numbers.
-fn ask_all(keeper: &mut Cached<'_>) -> Result<[u64; 6], Fail> {
+fn ask_all(keeper: &mut Cached) -> Result<[u64; 6], Fail> {
     let office = keeper.settings()?;
     let key = keeper.key(b"lin")?.ok_or("no key")?;
     let may = keeper.may_use(b"lin", b"in")?;
@@ -63,23 +75,22 @@ fn ask_all(keeper: &mut Cached<'_>) -> Result<[u64; 6], Fail> {
 const CLOSES: u64 = 1_370_044_800;
 
 // Whether asking twice gives the same right answers.
-fn tells_alike(alloc: Global, within: &mut Watched<Shelf>) -> Result<bool, Fail> {
-    let mut keeper = CachedKeeper::new(alloc, within);
-    let first = ask_all(&mut keeper)?;
-    let again = ask_all(&mut keeper)?;
+fn tells_alike(keeper: &mut Cached) -> Result<bool, Fail> {
+    let first = ask_all(keeper)?;
+    let again = ask_all(keeper)?;
     Ok(first == [0, 0, 1, CLOSES, 0, 1] && again == first)
 }
 
 #[test]
 fn asks_once(rt: HostRuntime) -> Result<(), Fail> {
-    let mut within = office(rt.alloc())?;
-    assert!(rt; tells_alike(rt.alloc(), &mut within)?);
-    assert_eq!(rt; within.calls, 6);
+    let mut keeper = cached(rt.alloc())?;
+    assert!(rt; tells_alike(&mut keeper)?);
+    assert_eq!(rt; keeper.into_inner().calls, 6);
     Ok(())
 }
 
 // Asks what the cache never answers: what does not exist, files, and what only the desk asks.
-fn ask_the_rest(keeper: &mut Cached<'_>) -> Result<bool, Fail> {
+fn ask_the_rest(keeper: &mut Cached) -> Result<bool, Fail> {
     let is_none = keeper.key(b"eve")?.is_none()
         && keeper.box_row(b"none")?.is_none()
         && keeper.file(b"in", b"a")?.is_none()
@@ -94,44 +105,42 @@ fn ask_the_rest(keeper: &mut Cached<'_>) -> Result<bool, Fail> {
 }
 
 // Whether asking twice gives the same right answers.
-fn tells_the_rest_alike(alloc: Global, within: &mut Watched<Shelf>) -> Result<bool, Fail> {
-    let mut keeper = CachedKeeper::new(alloc, within);
-    Ok(ask_the_rest(&mut keeper)? && ask_the_rest(&mut keeper)?)
+fn tells_the_rest_alike(keeper: &mut Cached) -> Result<bool, Fail> {
+    Ok(ask_the_rest(keeper)? && ask_the_rest(keeper)?)
 }
 
 #[test]
 fn asks_for_the_rest_each_time(rt: HostRuntime) -> Result<(), Fail> {
-    let mut within = office(rt.alloc())?;
-    assert!(rt; tells_the_rest_alike(rt.alloc(), &mut within)?);
-    assert_eq!(rt; within.calls, 20);
+    let mut keeper = cached(rt.alloc())?;
+    assert!(rt; tells_the_rest_alike(&mut keeper)?);
+    assert_eq!(rt; keeper.into_inner().calls, 20);
     Ok(())
 }
 
-fn command(keeper: &mut Cached<'_>, command: Command<'_>) -> Result<(), Fail> {
+fn command(keeper: &mut Cached, command: Command<'_>) -> Result<(), Fail> {
     Ok(keeper.apply(&Change::Desk(command))?)
 }
 
 // Changes everything that can be cached. Whether the answers are right after each change.
-fn tells_changes(alloc: Global, within: &mut Watched<Shelf>) -> Result<bool, Fail> {
-    let mut keeper = CachedKeeper::new(alloc, within);
-    let mut is_so = ask_all(&mut keeper)? == [0, 0, 1, CLOSES, 0, 1];
-    command(&mut keeper, Command::SetAllowance { seconds: 900 })?;
-    is_so &= ask_all(&mut keeper)? == [900, 0, 1, CLOSES, 0, 1];
+fn tells_changes(keeper: &mut Cached) -> Result<bool, Fail> {
+    let mut is_so = ask_all(keeper)? == [0, 0, 1, CLOSES, 0, 1];
+    command(keeper, Command::SetAllowance { seconds: 900 })?;
+    is_so &= ask_all(keeper)? == [900, 0, 1, CLOSES, 0, 1];
     let name = b"in";
-    command(&mut keeper, Command::CloseBox { name, moment: 9 })?;
-    is_so &= ask_all(&mut keeper)? == [900, 0, 1, 9, 0, 1];
+    command(keeper, Command::CloseBox { name, moment: 9 })?;
+    is_so &= ask_all(keeper)? == [900, 0, 1, 9, 0, 1];
     keeper.stage_begin()?;
     keeper.stage(b"abc")?;
     keeper.apply(&sets(1))?;
-    is_so &= ask_all(&mut keeper)? == [900, 0, 1, 9, 3, 2];
+    is_so &= ask_all(keeper)? == [900, 0, 1, 9, 3, 2];
     let (in_box, name) = (b"in", b"a");
-    command(&mut keeper, Command::DropFile { in_box, name })?;
-    is_so &= ask_all(&mut keeper)? == [900, 0, 1, 9, 0, 2];
+    command(keeper, Command::DropFile { in_box, name })?;
+    is_so &= ask_all(keeper)? == [900, 0, 1, 9, 0, 2];
     let (id, in_box) = (b"lin", b"out");
-    command(&mut keeper, Command::LimitKey { id, in_box })?;
-    is_so &= ask_all(&mut keeper)? == [900, 0, 0, 9, 0, 2];
-    command(&mut keeper, Command::RevokeKey { id })?;
-    is_so &= ask_all(&mut keeper)? == [900, 1, 0, 9, 0, 2];
+    command(keeper, Command::LimitKey { id, in_box })?;
+    is_so &= ask_all(keeper)? == [900, 0, 0, 9, 0, 2];
+    command(keeper, Command::RevokeKey { id })?;
+    is_so &= ask_all(keeper)? == [900, 1, 0, 9, 0, 2];
     keeper.stage_drop()?;
     Ok(is_so)
 }
@@ -140,14 +149,17 @@ fn tells_changes(alloc: Global, within: &mut Watched<Shelf>) -> Result<bool, Fai
 // asked for each time. After the upload the next number is known. The totals are not, because nobody asked for the old file.
 #[test]
 fn forgets_what_changed(rt: HostRuntime) -> Result<(), Fail> {
-    let mut within = office(rt.alloc())?;
-    assert!(rt; tells_changes(rt.alloc(), &mut within)?);
-    assert_eq!(rt; within.calls, 6 + 6 + 3 + 1 + 2 + 1 + 1 + 2 + 2);
+    let mut keeper = cached(rt.alloc())?;
+    assert!(rt; tells_changes(&mut keeper)?);
+    assert_eq!(rt;
+        keeper.into_inner().calls,
+        6 + 6 + 3 + 1 + 2 + 1 + 1 + 2 + 2
+    );
     Ok(())
 }
 
 // Sets a file of the box `in` to these bytes. Returns the box's bytes and files, and the next number.
-fn put(keeper: &mut Cached<'_>, number: u64, name: &[u8], bytes: &[u8]) -> Result<[u64; 3], Fail>
+fn put(keeper: &mut Cached, number: u64, name: &[u8], bytes: &[u8]) -> Result<[u64; 3], Fail>
     requires some { 1 ≤ length bytes.now }
     requires short { length bytes.now ≤ 65536 }
 {
@@ -167,7 +179,7 @@ fn put(keeper: &mut Cached<'_>, number: u64, name: &[u8], bytes: &[u8]) -> Resul
 }
 
 // The same, after asking for the old file's receipt as each upload does.
-fn upload(keeper: &mut Cached<'_>, number: u64, name: &[u8], bytes: &[u8]) -> Result<[u64; 3], Fail>
+fn upload(keeper: &mut Cached, number: u64, name: &[u8], bytes: &[u8]) -> Result<[u64; 3], Fail>
     requires some { 1 ≤ length bytes.now }
     requires short { length bytes.now ≤ 65536 }
 {
@@ -176,23 +188,23 @@ fn upload(keeper: &mut Cached<'_>, number: u64, name: &[u8], bytes: &[u8]) -> Re
 }
 
 // Whether totals and next number are right after a new file, after longer and shorter bytes replace it, and after another file.
-fn follows_uploads(alloc: Global, within: &mut Watched<Shelf>) -> Result<bool, Fail> {
-    let mut keeper = CachedKeeper::new(alloc, within);
+fn follows_uploads(keeper: &mut Cached) -> Result<bool, Fail> {
     let _ = keeper.box_row(b"in")?;
     let _ = keeper.sizes(b"in")?;
     Ok(
-        upload(&mut keeper, 1, b"a", b"abc")? == [3, 1, 2]
-            && upload(&mut keeper, 2, b"a", b"abcde")? == [5, 1, 3]
-            && upload(&mut keeper, 3, b"a", b"ab")? == [2, 1, 4]
-            && upload(&mut keeper, 4, b"b", b"abcd")? == [6, 2, 5],
+        upload(keeper, 1, b"a", b"abc")? == [3, 1, 2]
+            && upload(keeper, 2, b"a", b"abcde")? == [5, 1, 3]
+            && upload(keeper, 3, b"a", b"ab")? == [2, 1, 4]
+            && upload(keeper, 4, b"b", b"abcd")? == [6, 2, 5],
     )
 }
 
 // Totals and next number are asked for once, and known after each upload.
 #[test]
 fn asks_nothing_again_for_uploads(rt: HostRuntime) -> Result<(), Fail> {
-    let mut within = office(rt.alloc())?;
-    assert!(rt; follows_uploads(rt.alloc(), &mut within)?);
+    let mut keeper = cached(rt.alloc())?;
+    assert!(rt; follows_uploads(&mut keeper)?);
+    let mut within = keeper.into_inner();
     assert_eq!(rt; within.calls, 2 + 4 * 4);
     let totals = within.sizes(b"in")?;
     assert!(rt; totals.used == 6 && totals.count == 2 && within.next_number()? == 5);
@@ -201,35 +213,33 @@ fn asks_nothing_again_for_uploads(rt: HostRuntime) -> Result<(), Fail> {
 
 // Whether totals are right if the receipt asked for last is that of another file, in this box or in another one, or if none was
 // asked for since.
-fn follows_other_uploads(alloc: Global, within: &mut Watched<Shelf>) -> Result<bool, Fail> {
-    let mut keeper = CachedKeeper::new(alloc, within);
+fn follows_other_uploads(keeper: &mut Cached) -> Result<bool, Fail> {
     let _ = keeper.box_row(b"in")?;
-    let mut is_so = upload(&mut keeper, 1, b"a", b"abc")? == [3, 1, 2];
+    let mut is_so = upload(keeper, 1, b"a", b"abc")? == [3, 1, 2];
     let _ = keeper.file_receipt(b"in", b"b")?;
-    is_so &= put(&mut keeper, 2, b"a", b"abcde")? == [5, 1, 3];
+    is_so &= put(keeper, 2, b"a", b"abcde")? == [5, 1, 3];
     let _ = keeper.file_receipt(b"out", b"a")?;
-    is_so &= put(&mut keeper, 3, b"a", b"ab")? == [2, 1, 4];
-    is_so &= put(&mut keeper, 4, b"a", b"a")? == [1, 1, 5];
+    is_so &= put(keeper, 3, b"a", b"ab")? == [2, 1, 4];
+    is_so &= put(keeper, 4, b"a", b"a")? == [1, 1, 5];
     Ok(is_so)
 }
 
 // Then the totals are asked for again. So they are at the first upload, because nobody asked for them before.
 #[test]
 fn asks_for_totals_of_other_uploads(rt: HostRuntime) -> Result<(), Fail> {
-    let mut within = office(rt.alloc())?;
-    assert!(rt; follows_other_uploads(rt.alloc(), &mut within)?);
-    assert_eq!(rt; within.calls, 1 + 5 + 5 + 5 + 4);
+    let mut keeper = cached(rt.alloc())?;
+    assert!(rt; follows_other_uploads(&mut keeper)?);
+    assert_eq!(rt; keeper.into_inner().calls, 1 + 5 + 5 + 5 + 4);
     Ok(())
 }
 
 // Asks for a key and a box that do not exist, and adds them. Whether they are found then.
-fn tells_what_comes(alloc: Global, within: &mut Watched<Shelf>) -> Result<bool, Fail> {
-    let mut keeper = CachedKeeper::new(alloc, within);
+fn tells_what_comes(keeper: &mut Cached) -> Result<bool, Fail> {
     let is_none = keeper.key(b"eve")?.is_none() && keeper.box_row(b"new")?.is_none();
     let row = settings(Mode::Replace, 7, 9);
     let (role, secret) = (Role::Clerk, b"third");
     command(
-        &mut keeper,
+        keeper,
         Command::AddKey {
             id: b"eve",
             role,
@@ -237,7 +247,7 @@ fn tells_what_comes(alloc: Global, within: &mut Watched<Shelf>) -> Result<bool, 
         },
     )?;
     command(
-        &mut keeper,
+        keeper,
         Command::AddBox {
             name: b"new",
             row: &row,
@@ -250,15 +260,14 @@ fn tells_what_comes(alloc: Global, within: &mut Watched<Shelf>) -> Result<bool, 
 
 #[test]
 fn finds_what_comes(rt: HostRuntime) -> Result<(), Fail> {
-    let mut within = office(rt.alloc())?;
-    assert!(rt; tells_what_comes(rt.alloc(), &mut within)?);
-    assert_eq!(rt; within.calls, 6);
+    let mut keeper = cached(rt.alloc())?;
+    assert!(rt; tells_what_comes(&mut keeper)?);
+    assert_eq!(rt; keeper.into_inner().calls, 6);
     Ok(())
 }
 
 // Asks twice for each of 17 boxes whether a key may use it. Whether it always may.
-fn asks_for_uses(alloc: Global, within: &mut Watched<Shelf>) -> Result<bool, Fail> {
-    let mut keeper = CachedKeeper::new(alloc, within);
+fn asks_for_uses(keeper: &mut Cached) -> Result<bool, Fail> {
     let mut may_all = keeper.key(b"lin")?.is_some();
     for number in 0..34_u8 {
         may_all &= keeper.may_use(b"lin", &[number % 17])?;
@@ -268,21 +277,20 @@ fn asks_for_uses(alloc: Global, within: &mut Watched<Shelf>) -> Result<bool, Fai
 
 #[test]
 fn keeps_sixteen_uses_of_a_key(rt: HostRuntime) -> Result<(), Fail> {
-    let mut within = office(rt.alloc())?;
-    assert!(rt; asks_for_uses(rt.alloc(), &mut within)?);
-    assert_eq!(rt; within.calls, 1 + 17 + 1);
+    let mut keeper = cached(rt.alloc())?;
+    assert!(rt; asks_for_uses(&mut keeper)?);
+    assert_eq!(rt; keeper.into_inner().calls, 1 + 17 + 1);
     Ok(())
 }
 
 // Adds 8193 boxes and asks for each one, then for the last and for the first again.
-fn asks_for_boxes(alloc: Global, within: &mut Watched<Shelf>) -> Result<bool, Fail> {
+fn asks_for_boxes(keeper: &mut Cached) -> Result<bool, Fail> {
     let row = settings(Mode::Replace, 7, 9);
-    let mut keeper = CachedKeeper::new(alloc, within);
     let mut are_all = true;
     for number in 0..8193_u32 {
         let name = number.to_be_bytes();
         let (name, row) = (name.as_slice(), &row);
-        command(&mut keeper, Command::AddBox { name, row })?;
+        command(keeper, Command::AddBox { name, row })?;
         are_all &= keeper.box_row(name)?.is_some();
     }
     let last = keeper.box_row(&8192_u32.to_be_bytes())?;
@@ -292,34 +300,34 @@ fn asks_for_boxes(alloc: Global, within: &mut Watched<Shelf>) -> Result<bool, Fa
 
 #[test]
 fn keeps_eight_thousand_boxes(rt: HostRuntime) -> Result<(), Fail> {
-    let mut within = office(rt.alloc())?;
-    assert!(rt; asks_for_boxes(rt.alloc(), &mut within)?);
-    assert_eq!(rt; within.calls, 2 * 8193 + 1);
+    let mut keeper = cached(rt.alloc())?;
+    assert!(rt; asks_for_boxes(&mut keeper)?);
+    assert_eq!(rt; keeper.into_inner().calls, 2 * 8193 + 1);
     Ok(())
 }
 
 // Whether the answers before and after a refused change are the same.
-fn leaves_all(alloc: Global, within: &mut Watched<Shelf>) -> Result<bool, Fail> {
-    let mut keeper = CachedKeeper::new(alloc, within);
-    let before = ask_all(&mut keeper)?;
+fn leaves_all(keeper: &mut Cached) -> Result<bool, Fail> {
+    let before = ask_all(keeper)?;
     keeper.stage_begin()?;
     keeper.stage(b"abc")?;
     let is_full = keeper.apply(&sets(4_000_000_001)) == Err(KeepFault::Full);
-    let behind = ask_all(&mut keeper)?;
+    let behind = ask_all(keeper)?;
     Ok(is_full && before == [0, 0, 1, CLOSES, 0, 1] && behind == before)
 }
 
 #[test]
 fn forgets_all_at_a_fault(rt: HostRuntime) -> Result<(), Fail> {
-    let mut within = office(rt.alloc())?;
-    assert!(rt; leaves_all(rt.alloc(), &mut within)?);
+    let mut keeper = cached(rt.alloc())?;
+    assert!(rt; leaves_all(&mut keeper)?);
+    let within = keeper.into_inner();
     assert_eq!(rt; within.calls, 15);
     assert_eq!(rt; within.faults, 1);
     Ok(())
 }
 
 // One call of each kind that reaches the inner keeper even if everything is cached.
-fn one_call(keeper: &mut Cached<'_>, kind: u8) -> Result<(), KeepFault> {
+fn one_call(keeper: &mut Cached, kind: u8) -> Result<(), KeepFault> {
     match kind {
         0 => keeper.key(b"eve").map(|_| ()),
         1 => keeper.may_use(b"eve", b"in").map(|_| ()),
@@ -339,18 +347,14 @@ fn one_call(keeper: &mut Cached<'_>, kind: u8) -> Result<(), KeepFault> {
 }
 
 // Whether the call of this kind, which is the seventh, fails, and the answers before and after it are the same.
-fn fails_at(alloc: Global, within: &mut Watched<Shelf>, kind: u8) -> Result<bool, Fail> {
-    within.refuse(7);
-    let mut keeper = CachedKeeper::new(alloc, within);
-    let before = ask_all(&mut keeper)?;
-    let failed = one_call(&mut keeper, kind) == Err(KeepFault::Store);
-    Ok(failed && ask_all(&mut keeper)? == before)
+fn fails_at(keeper: &mut Cached, kind: u8) -> Result<bool, Fail> {
+    let before = ask_all(keeper)?;
+    let failed = one_call(keeper, kind) == Err(KeepFault::Store);
+    Ok(failed && ask_all(keeper)? == before)
 }
 
 // The same for the first call of `settings` and of `next_number`, which are cached later.
-fn fails_first(alloc: Global, within: &mut Watched<Shelf>, is_next: bool) -> Result<bool, Fail> {
-    within.refuse(2);
-    let mut keeper = CachedKeeper::new(alloc, within);
+fn fails_first(keeper: &mut Cached, is_next: bool) -> Result<bool, Fail> {
     let before = keeper.key(b"lin")?.is_some();
     let failed = if is_next {
         keeper.next_number() == Err(KeepFault::Store)
@@ -363,14 +367,14 @@ fn fails_first(alloc: Global, within: &mut Watched<Shelf>, is_next: bool) -> Res
 #[test]
 fn asks_all_again_behind_each_fault(rt: HostRuntime) -> Result<(), Fail> {
     for kind in 0..14_u8 {
-        let mut within = office(rt.alloc())?;
-        assert!(rt; fails_at(rt.alloc(), &mut within, kind)?);
-        assert_eq!(rt; within.calls, 6 + 1 + 6);
+        let mut keeper = refusing(rt.alloc(), 7)?;
+        assert!(rt; fails_at(&mut keeper, kind)?);
+        assert_eq!(rt; keeper.into_inner().calls, 6 + 1 + 6);
     }
-    let mut within = office(rt.alloc())?;
-    assert!(rt; fails_first(rt.alloc(), &mut within, true)?);
-    assert_eq!(rt; within.calls, 3);
-    assert!(rt; fails_first(rt.alloc(), &mut within, false)?);
-    assert_eq!(rt; within.calls, 3);
+    for is_next in [true, false] {
+        let mut keeper = refusing(rt.alloc(), 2)?;
+        assert!(rt; fails_first(&mut keeper, is_next)?);
+        assert_eq!(rt; keeper.into_inner().calls, 3);
+    }
     Ok(())
 }

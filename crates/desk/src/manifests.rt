@@ -8,6 +8,7 @@ ghost use Rattle.boxes.specs.Rows.{numbered_receipt};
 ghost use Rattle.boxes.specs.Sound.{IsMoment, IsSound};
 ghost use Rattle.boxes.specs.State.{State};
 ghost use Rattle.keeper.specs.Bound.{StaysBy};
+ghost use Rattle.keeper.specs.Keeping.{KeepsStaged};
 ghost use Rattle.desk.specs.Lists.{by_keeper, by_writer, written_by, AreLines, IsClean, IsOfManifest};
 ghost use Rattle.desk.specs.Manifests.{HasMoment, IsReceiptLine, SendsReceipts, WritesManifest};
 
@@ -94,6 +95,7 @@ fn send_receipts<K: Keeper, W: Write>(
     ensures sent { (s : State) → K.means keeper.old s → IsSound s → K.is_honest keeper.new
         → end ≡ length s.receipts + 1 → SendsReceipts s (W.contents out.old.inner) (W.contents out.new.inner) result }
     ensures stays { StaysBy K.Keeper keeper.old keeper.new (by_keeper result) }
+    ensures staged { KeepsStaged K.stages keeper.old keeper.new }
     ensures count { CountsErrors out.old.faults out.new.faults (by_writer result) }
     ensures fault { IfErr result IsOfManifest }
 {
@@ -127,6 +129,7 @@ pub fn manifest<K: Keeper, W: Write>(
     ensures writes { (s : State) → K.means keeper.old s → IsSound s → K.is_honest keeper.new
         → WritesManifest s (W.contents out.old.inner) (W.contents out.new.inner) result }
     ensures stays { StaysBy K.Keeper keeper.old keeper.new (by_keeper result) }
+    ensures staged { KeepsStaged K.stages keeper.old keeper.new }
     ensures count { CountsErrors out.old.faults out.new.faults (by_writer result) }
     ensures fault { IfErr result IsOfManifest }
 {

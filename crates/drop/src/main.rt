@@ -1,7 +1,7 @@
 //! `drop`: runs the program with its arguments and standard streams.
 #![tactic(auto)]
 
-use dropoffice::perform;
+use dropoffice::{Machine, Unknown, perform};
 use std::io::ErrorKind;
 use std::process::ExitCode;
 use std::{env, io};
@@ -12,7 +12,8 @@ mod tests;
 fn perform_words(rt: &HostRuntime) -> io::Result<u8> {
     let words: Vec<String> = env::args(rt)?.collect(rt.alloc())?;
     let words: Vec<&str> = words.iter().map(|word| word.as_str()).collect(rt.alloc())?;
-    Ok(perform(rt, &words, rt.stdin(), rt.stdout(), rt.stderr()))
+    let (input, out, err) = (rt.stdin(), rt.stdout(), rt.stderr());
+    Ok(perform(rt, &words, input, out, err, Unknown, Machine { rt }).status)
 }
 
 fn main(rt: HostRuntime) -> ExitCode {

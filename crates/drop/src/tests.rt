@@ -1,5 +1,5 @@
 //! The program over streams that fail in ways that no file does.
-use dropoffice::perform;
+use dropoffice::{Machine, Unknown, perform};
 use std::io::{ErrorKind, Write};
 use std::test::Fail;
 use std::{fs, io};
@@ -47,8 +47,26 @@ impl Write for Closed {
 fn a_failed_flush_is_told(rt: HostRuntime) -> Result<(), Fail> {
     fs::write(&rt, WORDS[3], REQUEST)?;
     let mut err = Vec::new(rt.alloc());
-    let status = perform(&rt, &WORDS, io::empty(), Unflushed, &mut err);
-    let silent = perform(&rt, &WORDS, io::empty(), Unflushed, Closed);
+    let status = perform(
+        &rt,
+        &WORDS,
+        io::empty(),
+        Unflushed,
+        &mut err,
+        Unknown,
+        Machine { rt: &rt },
+    )
+    .status;
+    let silent = perform(
+        &rt,
+        &WORDS,
+        io::empty(),
+        Unflushed,
+        Closed,
+        Unknown,
+        Machine { rt: &rt },
+    )
+    .status;
     fs::remove_file(&rt, WORDS[3])?;
     assert_eq!(rt; status, 1);
     assert_eq!(rt; err.as_slice(), b"drop: a connection failed\n".as_slice());

@@ -1,13 +1,22 @@
 //! `drop init`: makes an office file.
-ghost use Rattle.std.specs.Prelude.{pos, ◌≤ℤ◌, IfSome};
+ghost use Rattle.std.specs.Prelude.{◌≡◌, pos, neg_ℤ, ◌≤ℤ◌, IfOk, IfSome, IsOk, IsTrue};
+ghost use Rattle.sqlite.specs.State.{HasCleanDisk};
+ghost use Rattle.sqlite.specs.Held.{state};
+ghost use Rattle.sqlite.specs.WalFiles.{image_at};
+ghost use Rattle.sigv4.specs.Credential.{IsKeyId, IsSecret};
+ghost use Rattle.boxes.specs.FirstState.{first_state};
+ghost use Rattle.boxes.specs.State.{State};
+ghost use Rattle.sqltables.specs.Kept.{KeepsState, LeavesStates, MayLeave};
+ghost use Rattle.sqltables.specs.Schema.{s0};
+ghost use Rattle.dropoffice.specs.Leaving.{IsCleanLeft, IsClosed};
+ghost use Rattle.dropoffice.specs.Performing.{IsFirstRow, IsGivenSecret, IsSecretOf, Made};
 
-use crate::faults::Fault;
-use crate::opening::{Purpose, connect, disconnect};
-use crate::secrets::{check_secret, read_secret_file};
+use crate::opening::{Left, Purpose, Worked, connect, end_work, unfit, unopened_with};
 use boxes::OfficeRow;
+use commands::{Argument, Fault, check_secret, read_secret_file};
 use sigv4::{Allowance, is_key_id};
-use sqlite::{Alter, Connection};
-use sqlkeeper::{OpenFault, SqlKeeper};
+use sqlite::{Alter, Connection, FileFrom, Start};
+use sqlkeeper::SqlKeeper;
 use std::alloc::Global;
 use std::fs;
 use std::fs::{Files, OpenFile, OpenOptions, Permissions};
@@ -19,38 +28,76 @@ use tasks::{Init, Secret};
 const OWNERS: u32 = 0o600;
 
 /// Makes an office file from a new or an empty file. A file with the secret is read before.
-pub(crate) fn do_init(rt: &HostRuntime, words: &Init<'_>) -> Result<(), Fault<'static>> {
-    let office = read_office(words)?;
-    let secret = read_secret(rt, words.secret)?;
-    let log = format!(in rt.alloc(); "{}-wal", words.file)?;
+pub(crate) fn do_init<S: Start>(
+    rt: &HostRuntime,
+    words: &Init<'_>,
+    start: S,
+) -> Worked<Result<(), Fault>, FileFrom<S>>
+    ensures made { IfSome result.left (λ left. IsCleanLeft left → IsOk result.gain
+        → Made words.now (image_at S.Start) left) }
+    ensures opened { IsOk result.gain → IsOk result.closed → IsClosed result.left }
+{
+    let (office, secret) = match read_words(rt, words) {
+        Ok(read) => read,
+        Err(fault) => return unopened_with(Err(fault)),
+    };
+    let Ok(log) = format!(in rt.alloc(); "{}-wal", words.file) else {
+        return unopened_with(Err(Fault::OutOfMemory));
+    };
     let had_log = fs::symlink_metadata(rt, log.as_str()).is_ok();
-    let is_new = make_file(rt, words.file)?;
-    let made = make_office(rt, words, secret.as_slice(), office);
-    if is_new && is_unmade(&made) {
+    let is_new = match make_file(rt, words.file) {
+        Ok(is_new) => is_new,
+        Err(fault) => return unopened_with(Err(fault)),
+    };
+    let made = make_office(rt, words, secret.as_slice(), office, start);
+    if is_new && is_unmade(&made.gain) {
+        let Worked { gain, .. } = made;
         remove_made(rt, words.file, log.as_str(), had_log);
+        return unopened_with(gain);
     }
     made
 }
 
+// The office's settings and the secret of its clerk.
+fn read_words(rt: &HostRuntime, words: &Init<'_>) -> Result<(OfficeRow, Vec<u8>), Fault>
+    ensures { IfOk result (λ read. IsFirstRow words.now read.0 read.1.items) }
+{
+    let office = read_office(words)?;
+    let secret = read_secret(rt, words.secret)?;
+    Ok((office, secret))
+}
+
 // Whether the new file may be removed: it is not an office, and no other program has it open.
-fn is_unmade(made: &Result<(), Fault<'_>>) -> bool {
+fn is_unmade(made: &Result<(), Fault>) -> bool
+    ensures { IsTrue result → IsOk made.now → ⊥ }
+{
     match made {
-        Ok(()) | Err(Fault::Held | Fault::Office(OpenFault::Exists)) => false,
+        Ok(()) | Err(Fault::Held | Fault::Exists) => false,
         Err(_) => true,
     }
 }
 
 // The office's settings. Fails if an argument is malformed.
-fn read_office(words: &Init<'_>) -> Result<OfficeRow, Fault<'static>> {
+fn read_office(words: &Init<'_>) -> Result<OfficeRow, Fault>
+    ensures clerk { IfOk result (λ office. IsKeyId words.now.clerk.now) }
+    ensures east { IfOk result (λ office. (neg_ℤ (pos 840) ≤ℤ office.east) × (office.east ≤ℤ pos 840)) }
+    ensures secret { IfOk result (λ office. IsGivenSecret words.now.secret) }
+{
     if !is_key_id(words.clerk.as_bytes()) {
-        return Err(Fault::MalformedValue("clerk"));
+        return Err(Fault::MalformedValue(Argument::Clerk));
     }
     if let Secret::Given(text) = words.secret {
         check_secret(text.as_bytes())?;
     }
-    let east = minutes_of(words.east).ok_or(Fault::MalformedValue("east"))?;
-    let west = minutes_of(words.west).ok_or(Fault::MalformedValue("west"))?;
-    let allowance = allowance_of(words.allowance).ok_or(Fault::MalformedValue("allowance"))?;
+    let Some(east) = minutes_of(words.east) else {
+        return Err(Fault::MalformedValue(Argument::East));
+    };
+    let Some(west) = minutes_of(words.west) else {
+        return Err(Fault::MalformedValue(Argument::West));
+    };
+    let allowance = allowance_of(words.allowance).ok_or(Fault::MalformedValue(
+        Argument::Allowance,
+    ))?;
     Ok(OfficeRow {
         east: east - west,
         allowance,
@@ -58,7 +105,9 @@ fn read_office(words: &Init<'_>) -> Result<OfficeRow, Fault<'static>> {
 }
 
 // The secret: the argument itself, or the line of the named file.
-fn read_secret(rt: &HostRuntime, secret: Secret<'_>) -> Result<Vec<u8>, Fault<'static>> {
+fn read_secret(rt: &HostRuntime, secret: Secret<'_>) -> Result<Vec<u8>, Fault>
+    ensures { IfOk result (λ text. IsGivenSecret secret.entry → IsSecretOf secret.entry text.items) }
+{
     match secret {
         Secret::Given(text) => Ok(Vec::from_slice(rt.alloc(), text.as_bytes())?),
         Secret::InFile(name) => read_secret_file(rt, name),
@@ -83,7 +132,7 @@ fn allowance_of(text: &str) -> Option<Allowance> {
 }
 
 // Makes an empty file for the owner only, if there is no file. Whether it made one.
-fn make_file<R: Files>(rt: &R, file: &str) -> Result<bool, Fault<'static>> {
+fn make_file<R: Files>(rt: &R, file: &str) -> Result<bool, Fault> {
     let mut how = OpenOptions::new();
     how.read(true).write(true).create_new(true).mode(OWNERS);
     match how.open(rt, file) {
@@ -109,27 +158,57 @@ fn remove_made<R: Files>(rt: &R, file: &str, log: &str, had_log: bool) {
 }
 
 // Makes an office in the database of the file.
-fn make_office(
+fn make_office<S: Start>(
     rt: &HostRuntime,
     words: &Init<'_>,
     secret: &[u8],
     office: OfficeRow,
-) -> Result<(), Fault<'static>> {
-    let conn = connect(rt, words.file, Purpose::Change)?;
+    start: S,
+) -> Worked<Result<(), Fault>, FileFrom<S>>
+    ensures made { IsFirstRow words.now office secret.now → IfSome result.left (λ left. IsCleanLeft left
+        → IsOk result.gain → Made words.now (image_at S.Start) left) }
+    ensures opened { IsOk result.gain → IsOk result.closed → IsClosed result.left }
+{
+    let conn = match connect(rt, words.file, Purpose::Change, start) {
+        Ok(conn) => conn,
+        Err(fault) => return unopened_with(Err(fault)),
+    };
     let clerk = words.clerk.as_bytes();
-    disconnect(create_over(rt.alloc(), conn, office, clerk, secret)?)
+    match create_over(rt.alloc(), conn, office, clerk, secret) {
+        Ok(conn) => {
+            let (closed, left) = end_work(conn, Purpose::Change);
+            Worked {
+                gain: Ok(()),
+                closed,
+                left: Some(left),
+            }
+        }
+        Err((fault, conn)) => Worked {
+            gain: Err(fault),
+            closed: Ok(()),
+            left: Some(Left::Looked(conn)),
+        },
+    }
 }
 
-// Makes an office in a database without tables.
+// Makes an office in a database without tables. The error means that it could not be made.
 fn create_over<S: Alter + Drop>(
     alloc: Global,
     conn: Connection<S>,
     office: OfficeRow,
     clerk: &[u8],
     secret: &[u8],
-) -> Result<Connection<S>, Fault<'static>> {
+) -> Result<Connection<S>, (Fault, Connection<S>)>
+    ensures bare { IfOk result (λ made. (state S.Store conn).now.schema ≡ s0) }
+    ensures made { neg_ℤ (pos 840) ≤ℤ office.east → office.east ≤ℤ pos 840 → IsKeyId clerk.now → IsSecret secret.now
+        → IfOk result (λ made. HasCleanDisk (state S.Store made) → HasCleanDisk (state S.Store conn)
+        × KeepsState (state S.Store made) (first_state office.east office.allowance clerk.now secret.now)
+        × LeavesStates (state S.Store made)
+        × ((t : State) → MayLeave (state S.Store made) t
+        → t ≡ first_state office.east office.allowance clerk.now secret.now)) }
+{
     match SqlKeeper::create(alloc, conn, office, clerk, secret) {
         Ok(keeper) => Ok(keeper.close()),
-        Err((fault, _)) => Err(Fault::from(fault)),
+        Err((fault, conn)) => Err((unfit(fault), conn)),
     }
 }

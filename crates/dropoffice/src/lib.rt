@@ -1,30 +1,22 @@
-//! The program: the office file, and the commands.
+//! The program: the office file, and the commands over it.
 #![tactic(auto)]
 
-mod desking;
-mod exporting;
-mod faults;
 mod init;
-mod linking;
-mod listening;
-mod listing;
-mod manifesting;
-mod memory;
 mod migrating;
 mod opening;
 mod program;
-mod replaying;
-mod secrets;
-mod signing;
-mod watching;
+mod works;
 
+pub use commands::{Fault, Machine, Outside};
 pub use office::{
     Answer, Clock, Counted, DeskFault, FixedClock, ListedClock, MachineClock, Message, Office,
     Replayed, SessionEnd, law_of_acts, law_of_alike, law_of_replies, replay_bytes,
     replay_in_memory, replay_over,
 };
-pub use program::perform;
+pub use opening::Left;
+pub use program::{Performed, perform};
 pub use sockets::{Limits, Outcome, Served, serve};
+pub use sqlite::{Start, Unknown};
 pub use tasks::{
     Desk, Export, Init, Link, Links, Listing, OfficeFile, Replay, Secret, Serve, Task,
 };

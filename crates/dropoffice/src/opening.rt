@@ -1,13 +1,23 @@
 //! The office file of a command: its connection, its keeper, and the command's work.
-use crate::faults::Fault;
-use office::Office;
-use rolls::Rolls;
-use sqlite::{Alter, Connection, Error, ErrorCode, File, FileStore, Options, Unknown};
+ghost use Rattle.std.specs.Prelude.{◌≡◌, ◌≢◌, ◌⊎◌, IfErr, IfOk, IfSome, IsOk, IsSome, None};
+ghost use Rattle.sqlite.specs.State.{HasCleanDisk};
+ghost use Rattle.sqlite.specs.Held.{state};
+ghost use Rattle.sqlite.specs.Files.{file_state, IsOpened};
+ghost use Rattle.sqlite.specs.Start.{FindsIn};
+ghost use Rattle.sqlite.specs.WalFiles.{image_at};
+ghost use Rattle.boxes.specs.State.{State};
+ghost use Rattle.sqltables.specs.Kept.{KeepsState, LeavesStates};
+ghost use Rattle.dropoffice.specs.Leaving.{IsCleanLeft, IsClosed, IsLeftOf, IsUntouched, LeavesOffice, MayCrashTo, Ran};
+ghost use Rattle.dropoffice.specs.Holding.{HoldsOurs, RanOn, StillSees, WasOurs};
+
+use commands::{Fault, OfficeWork};
+use sqlite::{
+    Alter, Connection, Error, ErrorCode, FileFrom, FileStore, Files, Leftover, Options, Start,
+};
+use sqlite_disk::Disk;
 use sqlite_std_file::OpenError;
 use sqlkeeper::{OpenFault, SqlKeeper};
-use std::alloc::Global;
 use std::fs;
-use std::fs::Files;
 use std::hash::{BuildHasher, RandomState};
 use std::io::ErrorKind;
 
@@ -23,20 +33,26 @@ const SERVED_FRAMES: usize = 16_384;
 /// not only at its commit. An upload of 8 MiB then takes less memory, and is as fast.
 const SERVED_SPILL: usize = 512;
 
-// The store of an office file.
-pub(crate) type Store = FileStore<File>;
+// The store of an office file. `S` stands for what the file and its log held.
+pub(crate) type Store<S> = FileStore<FileFrom<S>>;
 
-// Why a database could not be opened.
-fn unopened(error: Error) -> Fault<'static> {
-    match error {
-        Error::SqliteFailure(ErrorCode::OutOfMemory) => Fault::OutOfMemory,
-        Error::SqliteFailure(ErrorCode::DatabaseBusy) => Fault::Held,
+// Why a database could not be opened. What is left of its files says how far the engine came: files that it did not open are no
+// database; behind that, a page, the schema or a row is wrong.
+fn unopened<D: Disk>(error: Error, left: &Leftover<D>) -> Fault {
+    match (error, left) {
+        (Error::SqliteFailure(ErrorCode::OutOfMemory), _) => Fault::OutOfMemory,
+        (Error::SqliteFailure(ErrorCode::DatabaseBusy), _) => Fault::Held,
+        (Error::SqliteFailure(ErrorCode::DatabaseCorrupt), _) => Fault::Damaged,
+        (
+            Error::SqliteFailure(ErrorCode::NotADatabase),
+            Leftover::Unopened(_) | Leftover::Store(_),
+        ) => Fault::Damaged,
         _ => Fault::CannotOpen,
     }
 }
 
 // Why the files of a database could not be opened.
-fn unopened_files(error: OpenError) -> Fault<'static> {
+fn unopened_files(error: OpenError) -> Fault {
     match error {
         OpenError::OutOfMemory => Fault::OutOfMemory,
         OpenError::Busy => Fault::Held,
@@ -46,7 +62,7 @@ fn unopened_files(error: OpenError) -> Fault<'static> {
 }
 
 // The options for opening a database.
-fn options(rt: &HostRuntime, purpose: Purpose) -> Result<Options, Fault<'static>> {
+fn options(rt: &HostRuntime, purpose: Purpose) -> Result<Options, Fault> {
     let Ok(random) = RandomState::new(rt) else {
         return Err(Fault::CannotOpen);
     };
@@ -59,19 +75,12 @@ fn options(rt: &HostRuntime, purpose: Purpose) -> Result<Options, Fault<'static>
     Ok(options)
 }
 
-// Why a database could not be closed.
-fn unclosed(error: Error) -> Fault<'static> {
+/// Why a database could not be closed.
+pub(crate) fn unclosed(error: Error) -> Fault {
     match error {
         Error::SqliteFailure(ErrorCode::OutOfMemory) => Fault::OutOfMemory,
-        _ => Fault::Office(OpenFault::Store),
+        _ => Fault::Store,
     }
-}
-
-/// The work of a command on an office. Only this file and `init` name the store of an office file. To check a function that
-/// names it takes twenty times as long as to check one over any keeper.
-pub(crate) trait OfficeWork<'a> {
-    /// Does the work.
-    fn run<K: Rolls>(self, rt: &HostRuntime, office: &mut Office<K>) -> Result<(), Fault<'a>>;
 }
 
 /// Why an office file is opened.
@@ -86,70 +95,169 @@ pub(crate) enum Purpose {
 }
 
 /// Connects to the database in an existing file. An empty file is a database without tables.
-pub(crate) fn connect(
+pub(crate) fn connect<S: Start>(
     rt: &HostRuntime,
     file: &str,
     purpose: Purpose,
-) -> Result<Connection<Store>, Fault<'static>> {
+    start: S,
+) -> Result<Connection<Store<S>>, Fault>
+    ensures opened { IfOk result (λ c. HasCleanDisk (file_state c) → IsOpened c) }
+    ensures found { IfOk result (λ c. HasCleanDisk (file_state c)
+        → FindsIn (image_at S.Start) (file_state c)) }
+{
     // SQLite does not read these as file names.
     if file == ":memory:" || file.starts_with("file:") {
         return Err(Fault::CannotOpen);
     }
     let options = options(rt, purpose)?;
-    let files = sqlite_std_file::open(rt, file, Unknown).map_err(unopened_files)?;
+    let files = match sqlite_std_file::open(rt, file, start) {
+        Ok(files) => files,
+        Err(error) => return Err(unopened_files(error)),
+    };
     match Connection::open_files(rt.alloc(), files, options) {
         Ok(conn) => Ok(conn),
-        Err((error, _)) => Err(unopened(error)),
+        Err((error, left)) => Err(unopened(error, &left)),
     }
 }
 
-/// Closes the database, which copies its log into the file.
-pub(crate) fn disconnect(conn: Connection<Store>) -> Result<(), Fault<'static>> {
-    conn.close().map_err(unclosed)
-}
-
 /// Fails if there is no such file, so that none is made.
-pub(crate) fn require_file<R: Files>(rt: &R, file: &str) -> Result<(), Fault<'static>> {
+pub(crate) fn require_file<R: fs::Files>(rt: &R, file: &str) -> Result<(), Fault> {
     match fs::metadata(rt, file) {
         Ok(_) => Ok(()),
         Err(_) => Err(Fault::CannotOpen),
     }
 }
 
-// The keeper over the office of a connection.
-fn keeper_over<S: Alter + Drop>(
-    alloc: Global,
-    conn: Connection<S>,
-) -> Result<SqlKeeper<S>, Fault<'static>> {
-    match SqlKeeper::open(alloc, conn) {
-        Ok(keeper) => Ok(keeper),
-        Err((OpenFault::Store, _)) => Err(Fault::CannotOpen),
-        Err((fault, _)) => Err(Fault::from(fault)),
+/// Why an office could not be made or migrated.
+pub(crate) fn unfit(fault: OpenFault) -> Fault {
+    match fault {
+        OpenFault::Exists => Fault::Exists,
+        OpenFault::Memory => Fault::OutOfMemory,
+        OpenFault::Shape => Fault::Damaged,
+        OpenFault::Store => Fault::Store,
+        OpenFault::Version => Fault::OtherVersion,
     }
 }
 
-// Does the work on the office of a connection. Returns the work's result and the connection.
-fn work_on<'a, S: Alter + Drop, W: OfficeWork<'a> + Drop>(
+// Why an office could not be opened.
+fn unopenable(fault: OpenFault) -> Fault {
+    match fault {
+        OpenFault::Store => Fault::CannotOpen,
+        other => unfit(other),
+    }
+}
+
+// Does the work on the office of a connection. Returns what the work gives, and the connection. The error means that the office
+// could not be opened.
+fn work_on<S: Alter + Drop, W: OfficeWork + Drop>(
     rt: &HostRuntime,
     conn: Connection<S>,
     work: W,
-) -> Result<(Result<(), Fault<'a>>, Connection<S>), Fault<'a>> {
-    let mut office = Office::new(rt.alloc(), keeper_over(rt.alloc(), conn)?);
-    let done = work.run(rt, &mut office);
-    Ok((done, office.keeper.close()))
+) -> Result<(W::Gain, Connection<S>), (W::Gain, Connection<S>)>
+    ensures ran { WasOurs (state S.Store conn) → IfOk result (λ r. HasCleanDisk (state S.Store r.1)
+        → RanOn (state S.Store conn) (state S.Store r.1) (W.step work r.0)) }
+    ensures idle { IfErr result (λ r. W.idle work r.0) }
+    ensures looked { IfErr result (λ r. StillSees (state S.Store conn) (state S.Store r.1)) }
+{
+    match SqlKeeper::open(rt.alloc(), conn) {
+        Ok(keeper) => {
+            let (gain, keeper) = work.run(rt, keeper);
+            Ok((gain, keeper.close()))
+        }
+        Err((fault, conn)) => Err((work.refuse(unopenable(fault)), conn)),
+    }
 }
 
-/// Does the work on the office of an existing file. A fault of the work takes precedence over a fault of closing the file.
-pub(crate) fn work_over<'a, W: OfficeWork<'a> + Drop>(
+/// What is left of an office file. Dropping it closes the file.
+#[derive(Drop)]
+pub enum Left<D: Disk> {
+    /// The connection, after work that only looked, or if the office could not be opened.
+    Looked(Connection<FileStore<D>>),
+    /// The files, closed.
+    Closed(Files<D>),
+    /// The store, which could not be closed.
+    Unclosed(FileStore<D>),
+}
+
+// Ends the work on an office file. The error means that it could not be closed.
+pub(crate) fn end_work<D: Disk + Drop>(
+    conn: Connection<FileStore<D>>,
+    purpose: Purpose,
+) -> (Result<(), Error>, Left<D>)
+    ensures closed { IsOk result.0 → purpose ≢ Purpose.Look → IsClosed (Some result.1) }
+    ensures clean { IsCleanLeft result.1 → HasCleanDisk (file_state conn) }
+    ensures leaves { IsCleanLeft result.1 → (s : State) → KeepsState (file_state conn) s
+        → LeavesOffice result.1 s }
+    ensures crash { IsCleanLeft result.1 → (s : State) → KeepsState (file_state conn) s
+        → LeavesStates (file_state conn) → MayCrashTo result.1 (IsLeftOf (file_state conn) s) }
+{
+    match purpose {
+        Purpose::Look => (Ok(()), Left::Looked(conn)),
+        Purpose::Change | Purpose::Serve => match conn.close_files() {
+            Ok(files) => (Ok(()), Left::Closed(files)),
+            Err((error, store)) => (Err(error), Left::Unclosed(store)),
+        },
+    }
+}
+
+/// What work on an office file gives, and what is left of the file, if it was opened.
+#[derive(Drop)]
+pub(crate) struct Worked<G: Drop, D: Disk> {
+    /// What the work gives.
+    pub(crate) gain: G,
+    /// Whether the file was closed, if it was to be.
+    pub(crate) closed: Result<(), Error>,
+    /// What is left.
+    pub(crate) left: Option<Left<D>>,
+}
+
+/// Nothing was opened.
+pub(crate) fn unopened_with<G: Drop, D: Disk>(gain: G) -> Worked<G, D>
+    ensures gain { result.gain ≡ gain }
+    ensures none { result.left ≡ None }
+{
+    Worked {
+        gain,
+        closed: Ok(()),
+        left: None,
+    }
+}
+
+/// Does the work on the office of an existing file.
+pub(crate) fn work_over<S: Start, W: OfficeWork + Drop>(
     rt: &HostRuntime,
     file: &str,
     purpose: Purpose,
     work: W,
-) -> Result<(), Fault<'a>> {
-    require_file(rt, file)?;
-    let (done, conn) = work_on(rt, connect(rt, file, purpose)?, work)?;
-    match purpose {
-        Purpose::Look => done,
-        Purpose::Change | Purpose::Serve => done.and(disconnect(conn)),
+    start: S,
+) -> Worked<W::Gain, FileFrom<S>>
+    ensures idle { W.idle work result.gain ⊎ IsSome result.left }
+    ensures closed { W.idle work result.gain
+        ⊎ (IsOk result.closed → purpose ≢ Purpose.Look → IsClosed result.left) }
+    ensures ran { HoldsOurs (image_at S.Start) → IfSome result.left (λ left. IsCleanLeft left
+        → Ran (image_at S.Start) left (W.step work result.gain)
+        ⊎ (W.idle work result.gain × IsUntouched (image_at S.Start) left)) }
+{
+    if let Err(fault) = require_file(rt, file) {
+        return unopened_with(work.refuse(fault));
+    }
+    let conn = match connect(rt, file, purpose, start) {
+        Ok(conn) => conn,
+        Err(fault) => return unopened_with(work.refuse(fault)),
+    };
+    match work_on(rt, conn, work) {
+        Ok((gain, conn)) => {
+            let (closed, left) = end_work(conn, purpose);
+            Worked {
+                gain,
+                closed,
+                left: Some(left),
+            }
+        }
+        Err((gain, conn)) => Worked {
+            gain,
+            closed: Ok(()),
+            left: Some(Left::Looked(conn)),
+        },
     }
 }

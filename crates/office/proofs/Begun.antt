@@ -1,7 +1,9 @@
 -- The steps that are possible when a message has begun.
-use Rattle.std.proofs.Common.{◌≡◌, ◌++◌, ℕ, List, [], true, arith, lit<, refl, sym, subst, codes}
+use Rattle.std.proofs.Common.{◌≡◌, ◌++◌, ℕ, List, [], false, true, arith, lit<, refl, sym, subst, codes}
 use Rattle.httparse.specs.Grammar.{RequestHead, ReadsRequest}
 use Rattle.httparse.proofs.GrammarLemmas.{request_unique}
+use Rattle.std.proofs.lemmas.List.{append-nil}
+use Rattle.sigtext.specs.Request.{Request}
 use Rattle.sigtext.specs.declared.refusal.Refusal.TheVariants as rule
 use Rattle.sigtext.specs.SignedHeaders.{named}
 use Rattle.wire.specs.Framing.{Announces, IsFront, IsHead, headers_of, HasHead, Next, Step, Message, Refused, Ended, Truncated, request_of}
@@ -46,3 +48,24 @@ begun_step bytes _ _ a (next.incomplete head n rest h small few) = refl
 begun_step bytes _ _ a (next.whole head b n body rest h small size) =
     let r = subst (λ (x : RequestHead). IsReadable (request_of x a.has_length [])) (same_head bytes h.front (body ++ rest) head a h.is_front h.is_head) a.readable in
     record { served = r.served; path = r.path; params = r.params; target = r.target; named = r.named }
+
+-- a readable message that came whole has begun
+pub message_begun : (stream rest : List ℕ) (r : Request) → Next stream (Message r) rest → IsReadable r → HasBegunMessage stream
+message_begun stream rest _ (next.whole head has_length n body _ h small size) readable = record {
+  text = h.front;
+  given = body ++ rest;
+  has_length = has_length;
+  size = n;
+  whole = h.is_front.whole;
+  opens = record {
+    is_front = record { whole = sym (append-nil h.front); ends = h.is_front.ends; short = h.is_front.short; shortest = h.is_front.shortest };
+    small = small;
+    head = head;
+    tells = record { is_head = h.is_head; uncoded = h.uncoded; announces = h.announces };
+  };
+  readable = record { served = readable.served; path = readable.path; params = readable.params; target = readable.target; named = readable.named };
+}
+
+-- a session that did not give up
+pub none_begun : {P : Type 0} → false ≡ true → P
+none_begun given = absurd cc

@@ -1,16 +1,23 @@
 -- Several changes of slots in order.
-use Rattle.std.proofs.Common.{◌≡◌, ◌<◌, ℕ, true, false, inl, inr, refl, List, [], ◌∷◌, ◌++◌, ◌+◌, Option, None, Some, length, get_or, set, subst, ap, ◌∙◌, sym, append_assoc, arith}
+use Rattle.std.proofs.Common.{⊎_elim, ◌≡◌, ◌<◌, ℕ, true, false, inl, inr, refl, List, [], ◌∷◌, ◌++◌, ◌+◌, Option, None, Some, length, get_or, set, subst, ap, ◌∙◌, sym, append_assoc, arith}
 use Rattle.std.specs.Prelude.{is_some}
-use Rattle.std.proofs.lemmas.List.{append-nil, get_or_default, length-append, length_push, set-get_or}
-use Rattle.std.proofs.Math.Path.{path_j, subst_refl}
-use Rattle.office.specs.Crowds.{Changes, ChangesBy, DoneAt, SentAt, number_of, numbers_after, slot_at, those_of, whose_turn}
+use Rattle.std.proofs.lemmas.Bool.{cases_eq}
+use Rattle.std.proofs.lemmas.List.{append-nil, get_or_default, get_or-set_other, get_or-set_same, length_push, set-get_or}
+use Rattle.office.specs.Crowds.{AreAmong, Changes, DoneAt, IsOpenAt, SentAt, number_of, numbers_after, slot_at, those_of}
 use Rattle.office.specs.Crowds as crowd
 use Rattle.office.specs.Seats.{Gathers, IsNew, Sends}
-use Rattle.office.specs.declared.connections.crowding.Due.{Due}
 use Rattle.office.specs.declared.connections.seat.Seat.{Seat}
 use Rattle.office.specs.declared.connections.session.SessionEnd.{SessionEnd}
 use Rattle.office.proofs.SeatTurns.{none_of}
-use Rattle.office.proofs.Ties.{none_is, some_is}
+use Rattle.office.proofs.Ties.{none_is, number_here, number_there, some_is}
+
+-- another connection, or none, takes the place of one that came
+pub among_set : {X : Type 0} (slots : List (Option X)) (p : ℕ) (v : Option X) (numbers : ℕ → ℕ) (n : ℕ) → p < length slots → ((x : X) → v ≡ Some x → numbers p < n) → AreAmong numbers n slots → AreAmong numbers n (set slots p v)
+among_set slots p v numbers n lt here h q x at =
+    ⊎_elim
+    (λ (e : q ≡ p). let is = here x (sym (get_or-set_same slots p v None lt) ∙ ap (slot_at (set slots p v)) (sym e) ∙ at) in subst (λ (m : ℕ). numbers m < n) (sym e) is)
+    (λ (ne : q ≡ p → ⊥). h q x (sym (get_or-set_other slots p q v None ne) ∙ at))
+    (cases_eq q p)
 
 module _ {R W : Type 0} (remaining : R → Option (List ℕ)) (contents : W → Option (List ℕ)) where
   -- some changes followed by others
@@ -29,81 +36,35 @@ module _ {R W : Type 0} (remaining : R → Option (List ℕ)) (contents : W → 
       subst (λ l. Changes remaining contents a (set now p None) (came ++ more) l) (append_assoc gone went (seat ∷ []))
       (crowd.goes now (came ++ more) (gone ++ went) p seat (changes_then a b now came gone more went first before) lt at)
 
-  -- ---- the numbers of the slots
+  -- ---- the connections in the slots
 
-  module _ (old new : List (Option (Seat R W))) (n : ℕ) (numbers : ℕ → ℕ) where
-    same_came : (came came' gone : List (Seat R W)) (x : Changes remaining contents old new came gone) (e : came ≡ came')
-        → numbers_after (subst (λ l. Changes remaining contents old new l gone) e x) n numbers ≡ numbers_after x n numbers
-    same_came came came' gone x e =
-        path_j (λ l (f : came ≡ l). numbers_after (subst (λ m. Changes remaining contents old new m gone) f x) n numbers ≡ numbers_after x n numbers)
-        (ap (λ (y : Changes remaining contents old new came gone). numbers_after y n numbers) (subst_refl (λ m. Changes remaining contents old new m gone) x)) e
+  -- after the changes, too, each connection in the slots is one of those that came
+  pub among_after : (a b : List (Option (Seat R W))) (came gone : List (Seat R W)) (n : ℕ) (numbers : ℕ → ℕ) (x : Changes remaining contents a b came gone)
+      → AreAmong numbers n a → AreAmong (numbers_after x n numbers) (n + length came) b
+  among_after a _ _ _ n numbers crowd.same h = λ p x at. let was = h p x at in omega (arith, was)
+  among_after a _ _ _ n numbers (crowd.comes now came gone p new before lt free is_new) h =
+      let was = among_after a now came gone n numbers before h in
+      λ q x at. ⊎_elim
+      (λ (e : q ≡ p). omega (arith, number_here p (n + length came) (numbers_after before n numbers) q e, length_push came new))
+      (λ (ne : q ≡ p → ⊥).
+      let before_this = was q x (sym (get_or-set_other now p q (Some new) None ne) ∙ at) in
+      omega (arith, number_there p (n + length came) (numbers_after before n numbers) q ne, before_this, length_push came new))
+      (cases_eq q p)
+  among_after a _ _ _ n numbers (crowd.gathers now came gone p seat new before lt at is_open g) h =
+      among_set now p (Some new) (numbers_after before n numbers) (n + length came) lt (λ y is. among_after a now came gone n numbers before h p seat at) (among_after a now came gone n numbers before h)
+  among_after a _ _ _ n numbers (crowd.sends now came gone p seat new before lt at g) h =
+      among_set now p (Some new) (numbers_after before n numbers) (n + length came) lt (λ y is. among_after a now came gone n numbers before h p seat at) (among_after a now came gone n numbers before h)
+  among_after a _ _ _ n numbers (crowd.goes now came gone p seat before lt at) h =
+      among_set now p None (numbers_after before n numbers) (n + length came) lt (λ y is. among_after a now came gone n numbers before h p seat at) (among_after a now came gone n numbers before h)
 
-    same_gone : (came gone gone' : List (Seat R W)) (x : Changes remaining contents old new came gone) (e : gone ≡ gone')
-        → numbers_after (subst (λ l. Changes remaining contents old new came l) e x) n numbers ≡ numbers_after x n numbers
-    same_gone came gone gone' x e =
-        path_j (λ l (f : gone ≡ l). numbers_after (subst (λ m. Changes remaining contents old new came m) f x) n numbers ≡ numbers_after x n numbers)
-        (ap (λ (y : Changes remaining contents old new came gone). numbers_after y n numbers) (subst_refl (λ m. Changes remaining contents old new came m) x)) e
-
-  -- After two lists of changes the numbers are those after the second list, starting from those after the
-  -- first.
-  pub numbers_then : (a b c : List (Option (Seat R W))) (came gone more went : List (Seat R W)) (n m : ℕ) (numbers : ℕ → ℕ) → m ≡ n + length came
-      → (first : Changes remaining contents a b came gone) (then : Changes remaining contents b c more went)
-      → numbers_after then m (numbers_after first n numbers) ≡ numbers_after (changes_then a b c came gone more went first then) n numbers
-  unfolding changes_then
-  numbers_then a b _ came gone _ _ n m numbers is first crowd.same =
-      sym (same_came a b n numbers came (came ++ []) (gone ++ []) (subst (λ l. Changes remaining contents a b came l) (sym (append-nil gone)) first) (sym (append-nil came))
-      ∙ same_gone a b n numbers came gone (gone ++ []) first (sym (append-nil gone)))
-  numbers_then a b _ came gone _ _ n m numbers is first (crowd.comes now more went p new before lt free is_new) =
-      let all = crowd.comes now (came ++ more) (gone ++ went) p new (changes_then a b now came gone more went first before) lt free is_new in
-      let many : m + length more ≡ n + length (came ++ more) = omega (arith, is, length-append came more) in
-      ap (λ (k : ℕ). number_of p k (numbers_after before m (numbers_after first n numbers))) many
-      ∙ ap (λ (f : ℕ → ℕ). number_of p (n + length (came ++ more)) f) (numbers_then a b now came gone more went n m numbers is first before)
-      ∙ sym (same_came a (set now p (Some new)) n numbers ((came ++ more) ++ new ∷ []) (came ++ (more ++ new ∷ [])) (gone ++ went) all (append_assoc came more (new ∷ [])))
-  numbers_then a b _ came gone _ _ n m numbers is first (crowd.gathers now more went p seat new before lt at is_open g) = numbers_then a b now came gone more went n m numbers is first before
-  numbers_then a b _ came gone _ _ n m numbers is first (crowd.sends now more went p seat new before lt at g) = numbers_then a b now came gone more went n m numbers is first before
-  numbers_then a b _ came gone _ _ n m numbers is first (crowd.goes now more went p seat before lt at) =
-      let all = crowd.goes now (came ++ more) (gone ++ went) p seat (changes_then a b now came gone more went first before) lt at in
-      numbers_then a b now came gone more went n m numbers is first before
-      ∙ sym (same_gone a (set now p None) n numbers (came ++ more) ((gone ++ went) ++ seat ∷ []) (gone ++ (went ++ seat ∷ [])) all (append_assoc gone went (seat ∷ [])))
-
-  -- if no connection came, the numbers are unchanged
-  pub numbers_stay : (a b : List (Option (Seat R W))) (came gone : List (Seat R W)) (n : ℕ) (numbers : ℕ → ℕ) → length came ≡ 0 → (x : Changes remaining contents a b came gone)
-      → numbers_after x n numbers ≡ numbers
-  numbers_stay a _ _ _ n numbers none crowd.same = refl
-  numbers_stay a _ _ _ n numbers none (crowd.comes now came gone p new before lt free is_new) = absurd (omega (arith, none, length_push came new))
-  numbers_stay a _ _ _ n numbers none (crowd.gathers now came gone p seat new before lt at is_open g) = numbers_stay a now came gone n numbers none before
-  numbers_stay a _ _ _ n numbers none (crowd.sends now came gone p seat new before lt at g) = numbers_stay a now came gone n numbers none before
-  numbers_stay a _ _ _ n numbers none (crowd.goes now came gone p seat before lt at) = numbers_stay a now came gone n numbers none before
-
-  module _ {G : Type 0} (met : G → List (Seat R W) → List (Seat R W) → Type 0) (gave : G → (ℕ → ℕ) → List ℕ → Type 0) where
-    abbrev By : G → G → List (Option (Seat R W)) → List (Option (Seat R W)) → Option Due → Type 0
-    By i j a b due = ChangesBy remaining contents met gave i j a b due
-
-    -- no turn was due after the first changes
-    pub by_then : (i j k : G) (a b c : List (Option (Seat R W))) (due : Option Due) → By i j a b None → By j k b c due → By i k a c due
-    by_then i j k a b c due first then came gone h =
-        let x = first came gone h in
-        let y = then (came ++ x.0) (gone ++ x.1) x.2 in (
-          x.0 ++ y.0,
-          x.1 ++ y.1,
-          subst (λ l. met k l (gone ++ (x.1 ++ y.1))) (append_assoc came x.0 y.0) (subst (λ l. met k ((came ++ x.0) ++ y.0) l) (append_assoc gone x.1 y.1) y.2),
-          changes_then a b c x.0 x.1 y.0 y.1 x.3 y.3,
-          λ numbers given g.
-              let mid = numbers_after x.3 (length came) numbers in
-              subst (λ (f : ℕ → ℕ). gave k f (given ++ whose_turn f due)) (numbers_then a b c x.0 x.1 y.0 y.1 (length came) (length (came ++ x.0)) numbers (length-append came x.0) x.3 y.3)
-              (y.4 mid given (subst (gave j mid) (append-nil given) (x.4 numbers given g))),
-        )
-
-    -- no connection comes or goes
-    pub by_same : (i j : G) (a b : List (Option (Seat R W))) (due : Option Due) → ((came gone : List (Seat R W)) → met i came gone → met j came gone)
-        → ((numbers : ℕ → ℕ) (given : List ℕ) → gave i numbers given → gave j numbers (given ++ whose_turn numbers due)) → Changes remaining contents a b [] [] → By i j a b due
-    by_same i j a b due still gives changes came gone h = (
-      [],
-      [],
-      subst (λ l. met j l (gone ++ [])) (sym (append-nil came)) (subst (λ l. met j came l) (sym (append-nil gone)) (still came gone h)),
-      changes,
-      λ numbers given g. subst (λ (f : ℕ → ℕ). gave j f (given ++ whose_turn f due)) (sym (numbers_stay a b [] [] (length came) numbers refl changes)) (gives numbers given g),
-    )
+  -- after the turn of an open connection, too
+  pub among_turned : (a b c : List (Option (Seat R W))) (came gone : List (Seat R W)) (n m : ℕ) (numbers : ℕ → ℕ) (x : Changes remaining contents a b came gone) (p : ℕ) (v : Option (Seat R W))
+      → n + length came ≡ m → IsOpenAt b p → c ≡ set b p v → AreAmong numbers n a → AreAmong (numbers_after x n numbers) m c
+  among_turned a b c came gone n m numbers x p v sum due is h =
+      let now = among_after a b came gone n numbers x h in
+      subst (λ k. AreAmong (numbers_after x n numbers) k c) sum
+      (subst (λ l. AreAmong (numbers_after x n numbers) (n + length came) l) (sym is)
+      (among_set b p v (numbers_after x n numbers) (n + length came) due.0 (λ y at. now p due.1 due.2) now))
 
   -- a connection comes into the slot that was read at an index
   pub by_comes : (a : List (Option (Seat R W))) (p : ℕ) (d : Option (Seat R W)) (new : Seat R W) → p < length a → get_or a p d ≡ None → IsNew new → Changes remaining contents a (set a p (Some new)) (new ∷ []) []

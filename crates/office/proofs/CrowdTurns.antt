@@ -256,6 +256,7 @@ module _ {R W : Type 0} (remaining : R → Option (List ℕ)) (contents : W → 
           each_counted = w.each_counted;
           one_moment = w.one_moment;
           by_turns = w.by_turns;
+          begun = w.begun;
           repeats = w.repeats;
           stays = w.stays;
           lasts = w.lasts;

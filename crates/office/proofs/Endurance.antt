@@ -40,6 +40,9 @@ asked_for f (inl a) = inl a
 asked_for f (inr (inl s)) = inr (inl s)
 asked_for f (inr (inr c)) = inr (inr (f c))
 
+one_more : {P Q : Request → ℕ → Type 0} {s : State} → ((r : Request) (now : ℕ) → P r now → Q r now) → (t : State) → IsOneMore P s t → IsOneMore Q s t
+one_more f t x = record { request = x.request; moment = x.moment; was_given_up = f x.request x.moment x.was_given_up; asked = x.asked }
+
 module _ {K : Type 0} {k : Ghosts K} where
   -- a question was asked
   pub asked_standing : {T : Type 0} {a b : K} {s : State} {result : Result T KeepFault} → StaysBy k a b result → k.means a s → k.is_honest b → AddsStanding k a b s
@@ -93,25 +96,34 @@ module _ {K : Type 0} {k : Ghosts K} where
   then_asks x y = record { adds = λ t at. joined (x.adds t) (y.adds t at); whole = λ w. y.whole (x.whole w) }
 
   -- nothing was changed, and nothing was given up
-  pub survives_same : {a b : K} {s : State} → AddsStanding k a b s → Survives k a b s s
+  pub survives_same : {P : Request → ℕ → Type 0} {a b : K} {s : State} → AddsStanding k a b s → Survives k a b P s s
   survives_same adds = no_change refl (adds_less adds)
 
   -- a message was given up
-  pub survives_asked : {a b : K} {s : State} (r : Request) (now : ℕ) → AddsAsked k a b s (IsAsked s r now) → Survives k a b s s
-  survives_asked r now asks = no_change refl (more_asked (λ t is. record { request = r; moment = now; asked = is }) asks)
+  pub survives_asked : {P : Request → ℕ → Type 0} {a b : K} {s : State} (r : Request) (now : ℕ) → P r now → AddsAsked k a b s (IsAsked s r now) → Survives k a b P s s
+  survives_asked r now was asks = no_change refl (more_asked (λ t is. record { request = r; moment = now; was_given_up = was; asked = is }) asks)
 
   -- nothing was given up
-  pub survives_through : {a b : K} {s after : State} → LastsThrough k a b s after → Survives k a b s after
+  pub survives_through : {P : Request → ℕ → Type 0} {a b : K} {s after : State} → LastsThrough k a b s after → Survives k a b P s after
   survives_through (changed_once alone whole) = some_change (λ t at. inl (alone t at)) whole
   survives_through (never_changed same adds) = no_change same (adds_less adds)
 
   -- two lists of calls in a row
-  pub then_survives : {a b c : K} {s mid after : State} → Survives k a b s mid → Survives k b c mid after → Survives k a c s after
+  pub then_survives : {P : Request → ℕ → Type 0} {a b c : K} {s mid after : State} → Survives k a b P s mid → Survives k b c P mid after → Survives k a c P s after
   then_survives x (some_change alone whole) = some_change alone whole
-  then_survives {a = a} {c = c} {s = s} (some_change alone whole) (no_change same y) =
-      subst (λ (z : State). Survives k a c s z) (sym same) (some_change (λ t at. settled (alone t) (y.adds t at)) (y.whole whole))
-  then_survives {b = b} {c = c} (no_change first x) (no_change same y) =
-      no_change (same ∙ first) (then_asks x (subst (λ (z : State). AddsAsked k b c z (IsOneMore z)) first y))
+  then_survives {P = P} {a = a} {c = c} {s = s} (some_change alone whole) (no_change same y) =
+      subst (λ (z : State). Survives k a c P s z) (sym same) (some_change (λ t at. settled (alone t) (y.adds t at)) (y.whole whole))
+  then_survives {P = P} {b = b} {c = c} (no_change first x) (no_change same y) =
+      no_change (same ∙ first) (then_asks x (subst (λ (z : State). AddsAsked k b c z (IsOneMore P z)) first y))
+
+  -- what was given up is among these requests too
+  pub survives_more : {P Q : Request → ℕ → Type 0} {a b : K} {s after : State} → ((r : Request) (now : ℕ) → P r now → Q r now) → Survives k a b P s after → Survives k a b Q s after
+  survives_more {P = P} {Q = Q} f (some_change alone whole) = some_change (λ t at. either t (alone t at)) whole
+    where
+      either : {after : State} (t : State) → (t ≡ after) ⊎ IsOneMore P after t → (t ≡ after) ⊎ IsOneMore Q after t
+      either t (inl is) = inl is
+      either t (inr more) = inr (one_more f t more)
+  survives_more f (no_change same y) = no_change same (more_asked (one_more f) y)
 
   -- ---- one call
 

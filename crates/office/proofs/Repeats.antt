@@ -1,5 +1,5 @@
 -- An upload acts once over a whole run.
-use Rattle.std.proofs.Common.{◌≡◌, ◌∙◌, ℕ, suc, ◌+◌, Bool, List, [], ◌∷◌, ◌++◌, codes, length, refl, sym, ap, subst, append_assoc}
+use Rattle.std.proofs.Common.{◌≡◌, ◌∙◌, ℕ, suc, ◌+◌, Bool, true, List, [], ◌∷◌, ◌++◌, codes, length, refl, sym, ap, subst, append_assoc}
 use Rattle.std.specs.Prelude.{⊤}
 use Rattle.std.specs.List.{AllByRecursion}
 use Rattle.hex.specs.Hex.{encode_lower}
@@ -189,6 +189,14 @@ last_acts _ _ _ _ _ _ _ _ (session.write_failed_giving_up_at n stream rest s r n
     record { acts = []; are = act.given_up n stream rest s r now _ _ next readable begins; none = tt; by_rules = refl }
 last_acts _ _ _ _ _ _ _ _ (session.write_failed_giving_up_reading n stream s front may begins) once =
     over _ stream s _ _ _ (session.write_failed_giving_up_reading n stream s front may begins)
+
+-- if the session gave up, there is no act
+pub none_acted : (n : ℕ) (stream : List ℕ) (s : State) (moments out : List ℕ) (e : SessionEnd) (gave_up : Bool) (after : State)
+    → (x : Session n stream s moments out e gave_up after) (once : EndsAtOnce x) → gave_up ≡ true → (last_acts n stream s moments out e gave_up after x once).acts ≡ []
+unfolding last_acts over
+none_acted _ _ _ _ _ _ _ _ (session.served n stream rest s mid after r now moments text out e gave_up next answers more) once given = absurd once
+none_acted _ _ _ _ _ _ _ _ (session.write_failed n stream rest s after r now text front next answers begins) once given = absurd cc
+none_acted _ _ _ _ _ _ _ _ _ once given = refl
 
 all_of : {n : ℕ} {stream : List ℕ} {s : State} {moments out : List ℕ} {e : SessionEnd} {gave_up : Bool} {after : State} → LastActs n stream s moments out e gave_up after → HasActs n stream s moments out e gave_up after
 all_of x = record { acts = x.acts; are = x.are; by_rules = x.by_rules }

@@ -1,18 +1,21 @@
 -- A run so far, and one more connection.
-use Rattle.std.proofs.Common.{◌≡◌, ℕ, suc, Bool, true, false, ◌+◌, ◌<◌, ◌≤◌, cond, List, [], ◌∷◌, ◌++◌, length, take, drop, set, get_or, Option, refl, sym, ap, subst, ◌∙◌, append_assoc, arith}
-use Rattle.std.specs.List.{count_by, sum_by}
+use Rattle.std.proofs.Common.{◌≡◌, ◌⊎◌, inl, inr, ℕ, suc, Bool, true, false, ◌+◌, ◌<◌, ◌≤◌, cond, List, [], ◌∷◌, ◌++◌, length, take, drop, set, get_or, Option, refl, sym, ap, subst, ◌∙◌, append_assoc, arith}
+use Rattle.std.specs.List.{AllByRecursion, count_by, sum_by}
 use Rattle.std.specs.Io.KnownBytes.{Appends}
 use Rattle.std.proofs.lemmas.List.{append-nil, take_more_set, drop_more, drop-set-lt, take_all}
 use Rattle.std.proofs.lemmas.List.Sums.{sum_by-append}
 use Rattle.std.proofs.Math.Seq.{take-suc}
+use Rattle.sigtext.specs.Request.{Request}
 use Rattle.boxes.specs.State.{State}
 use Rattle.keeper.specs.declared.keep.Keeper.{Ghosts}
 use Rattle.wire.specs.declared.counted.Counted.{Counted}
 use Rattle.office.specs.declared.connections.session.SessionEnd.{SessionEnd}
-use Rattle.office.specs.Connections.{TellsMoments, IsStream, Serves, TellsFaults, HoldsUpOver, HoldsUpTo, NoneGaveUp, StaysOpen, AreServed, is_fault, Runs}
+use Rattle.office.specs.declared.connections.session.SessionEnd.TheVariants.{ReadFault}
+use Rattle.office.specs.Connections.{TellsMoments, IsStream, Serves, TellsFaults, HoldsUpOver, HoldsUpTo, LastsOverAll, StaysOpen, AreServed, is_fault, Runs}
+use Rattle.office.specs.Crashes.{LastsThrough, never_changed}
 use Rattle.office.specs.Premise.{HoldsUp, IsLeft}
-use Rattle.office.specs.Sessions.{Session, Connection, Run, most_messages}
-use Rattle.office.proofs.Endurance.{still, survives_same, then_survives}
+use Rattle.office.specs.Sessions.{GaveUpAt, GaveUpIn, Session, Connection, Run, most_messages}
+use Rattle.office.proofs.Endurance.{still, survives_more, survives_same, then_survives, then_through}
 use Rattle.office.proofs.Repeats.{runs_act_once}
 use Rattle.office.proofs.Without.{runs_without}
 
@@ -32,12 +35,34 @@ served_more remaining contents old new c (x ∷ olds) [] cs h read written risen
 served_more remaining contents old new c (x ∷ olds) (y ∷ news) [] h read written risen = absurd h
 served_more remaining contents old new c (x ∷ olds) (y ∷ news) (d ∷ cs) h read written risen = (h.0, h.1, h.2, served_more remaining contents old new c olds news cs h.3 read written risen)
 
-pub run_more : (s mid after : State) (c : Connection) (cs : List Connection) (moments more : List ℕ) → Run s cs moments mid → Session most_messages c.stream mid more c.answers c.end c.gave_up after
-    → Run s (cs ++ c ∷ []) (moments ++ more) after
+-- A run with one more connection. What was given up before and what this connection gave up was given up in
+-- it.
+pub record RunsMore (s after : State) (cs : List Connection) (c : Connection) (moments more : List ℕ) (before here : Request → ℕ → Type 0) : Type 0 where
+  pub run : Run s (cs ++ c ∷ []) (moments ++ more) after
+  pub earlier : (r : Request) (now : ℕ) → before r now → GaveUpIn s (cs ++ c ∷ []) (moments ++ more) after run r now
+  pub last : (r : Request) (now : ℕ) → here r now → GaveUpIn s (cs ++ c ∷ []) (moments ++ more) after run r now
+
+pub run_more : (s mid after : State) (c : Connection) (cs : List Connection) (moments more : List ℕ) (h : Run s cs moments mid) (session : Session most_messages c.stream mid more c.answers c.end c.gave_up after)
+    → RunsMore s after cs c moments more (GaveUpIn s cs moments mid h) (GaveUpAt session)
 run_more s mid after c [] moments more h session =
-    (more, [], after, ap (λ (t : List ℕ). t ++ more) h.0 ∙ sym (append-nil more), subst (λ x. Session most_messages c.stream x more c.answers c.end c.gave_up after) h.1 session, (refl, refl))
+    let moved : (x : Session most_messages c.stream s more c.answers c.end c.gave_up after) × ((r : Request) (now : ℕ) → GaveUpAt session r now → GaveUpAt x r now) =
+    subst (λ z. (x : Session most_messages c.stream z more c.answers c.end c.gave_up after) × ((r : Request) (now : ℕ) → GaveUpAt session r now → GaveUpAt x r now)) h.1 (session, λ r now given. given) in
+    record {
+      run = (more, [], after, ap (λ (t : List ℕ). t ++ more) h.0 ∙ sym (append-nil more), moved.0, (refl, refl));
+      earlier = λ r now none. absurd none;
+      last = λ r now given. inl (moved.1 r now given);
+    }
 run_more s mid after c (d ∷ cs) moments more h session =
-    (h.0, h.1 ++ more, h.2, ap (λ (t : List ℕ). t ++ more) h.3 ∙ append_assoc h.0 h.1 more, h.4, run_more h.2 mid after c cs h.1 more h.5 session)
+    let x = run_more h.2 mid after c cs h.1 more h.5 session in
+    record {
+      run = (h.0, h.1 ++ more, h.2, ap (λ (t : List ℕ). t ++ more) h.3 ∙ append_assoc h.0 h.1 more, h.4, x.run);
+      earlier = λ r now given. second (GaveUpAt h.4 r now) (GaveUpIn h.2 cs h.1 mid h.5 r now) (GaveUpIn h.2 (cs ++ c ∷ []) (h.1 ++ more) after x.run r now) (x.earlier r now) given;
+      last = λ r now given. inr (x.last r now given);
+    }
+  where
+    second : (A B C : Type 0) → (B → C) → A ⊎ B → A ⊎ C
+    second A B C f (inl a) = inl a
+    second A B C f (inr b) = inr (f b)
 
 pub count_more : (cs : List Connection) (c : Connection) → count_by (λ d. is_fault d.end) (cs ++ c ∷ []) ≡ count_by (λ d. is_fault d.end) cs + cond (is_fault c.end) 1 0
 count_more cs c =
@@ -48,9 +73,9 @@ held_more : {K : Type 0} (k : Ghosts K) (cs : List Connection) (c : Connection) 
 held_more k [] c first mid last same held = (last, subst (λ n. HoldsUpTo k c.gave_up c.end n last) same held, refl)
 held_more k (d ∷ cs) c first mid last h held = (h.0, h.1, held_more k cs c h.0 mid last h.2 held)
 
-none_more : (cs : List Connection) (c : Connection) → NoneGaveUp (cs ++ c ∷ []) → NoneGaveUp cs × (c.gave_up ≡ false)
-none_more [] c none = (tt, none.0)
-none_more (d ∷ cs) c none = let more = none_more cs c none.1 in ((none.0, more.0), more.1)
+all_more : (P : Connection → Type 0) (cs : List Connection) (c : Connection) → AllByRecursion P (cs ++ c ∷ []) → AllByRecursion P cs × P c
+all_more P [] c all = (tt, all.0)
+all_more P (d ∷ cs) c all = let more = all_more P cs c all.1 in ((all.0, more.0), more.1)
 
 held_open : {K : Type 0} (k : Ghosts K) (gave_up : Bool) (old new : K) → gave_up ≡ false → HoldsUp k gave_up old new → k.is_open old → k.is_open new
 held_open k true old new is held = absurd cc
@@ -67,9 +92,18 @@ none_opened k keeper s one left none was = (was, λ t means. one t s was means l
 pub opened_more : {K : Type 0} (k : Ghosts K) (cs : List Connection) (c : Connection) (first mid last : K) (before after : State) → MeansOne k last → IsLeft (k.means last) after
     → StaysOpen k cs first mid before → HoldsUp k c.gave_up mid last → StaysOpen k (cs ++ c ∷ []) first last after
 opened_more k cs c first mid last before after one left opened held none was =
-    let both = none_more cs c none in
+    let both = all_more (λ d. d.gave_up ≡ false) cs c none in
     let now = held_open k c.gave_up mid last both.1 held (opened both.0 was).0 in
     (now, λ t means. one t after now means left.means)
+
+-- no connection came
+pub none_lasts : {K : Type 0} (k : Ghosts K) (keeper : K) (s : State) → LastsOverAll k [] keeper keeper s s
+none_lasts k keeper s all = never_changed refl still
+
+pub lasts_more : {K : Type 0} (k : Ghosts K) (cs : List Connection) (c : Connection) (first mid last : K) (s before after : State) → LastsOverAll k cs first mid s before
+    → ((c.gave_up ≡ false) ⊎ (c.end ≡ ReadFault) → LastsThrough k mid last before after) → LastsOverAll k (cs ++ c ∷ []) first last s after
+lasts_more k cs c first mid last s before after earlier here all =
+    let both = all_more (λ d. (d.gave_up ≡ false) ⊎ (d.end ≡ ReadFault)) cs c all in then_through (earlier both.0) (here both.1)
 
 runs_more : {C R W K : Type 0} (gives : C → ℕ → C → Type 0) (remaining : R → Option (List ℕ)) (contents : W → Option (List ℕ)) (first clock clock' : C) (olds news : List (Counted R × Counted W)) (old new : Counted R × Counted W)
     (k : Ghosts K) (keeper keeper' keeper'' : K) (s mid after : State) (faults faults' : ℕ) (e : SessionEnd) → MeansOne k keeper'' → IsLeft (k.means keeper'') after → Runs gives remaining contents first clock olds news k keeper keeper' s mid faults
@@ -77,7 +111,7 @@ runs_more : {C R W K : Type 0} (gives : C → ℕ → C → Type 0) (remaining :
     → Runs gives remaining contents first clock' (olds ++ old ∷ []) (news ++ new ∷ []) k keeper keeper'' s after faults'
 runs_more gives remaining contents first clock clock' olds news old new k keeper keeper' keeper'' s mid after faults faults' e one left r served risen counted =
     let c : Connection = record { stream = served.stream; answers = served.answers; end = e; gave_up = served.gave_up } in
-    let run = run_more s mid after c r.connections r.moments served.moments r.run served.session in
+    let x = run_more s mid after c r.connections r.moments served.moments r.run served.session in
     record {
       connections = r.connections ++ c ∷ [];
       moments = r.moments ++ served.moments;
@@ -85,10 +119,11 @@ runs_more gives remaining contents first clock clock' olds news old new k keeper
       served = served_more remaining contents old new c olds news r.connections r.served served.read served.written risen;
       held = held_more k r.connections c keeper keeper' keeper'' r.held served.held;
       opened = opened_more k r.connections c keeper keeper' keeper'' mid after one left r.opened served.held.0;
-      survives = then_survives r.survives served.survives;
-      run = run;
-      without = runs_without s after (r.connections ++ c ∷ []) (r.moments ++ served.moments) run;
-      repeats = runs_act_once s after (r.connections ++ c ∷ []) (r.moments ++ served.moments) run;
+      run = x.run;
+      lasts = lasts_more k r.connections c keeper keeper' keeper'' s mid after r.lasts served.lasts;
+      survives = then_survives (survives_more x.earlier r.survives) (survives_more x.last served.survives);
+      without = runs_without s after (r.connections ++ c ∷ []) (r.moments ++ served.moments) x.run;
+      repeats = runs_act_once s after (r.connections ++ c ∷ []) (r.moments ++ served.moments) x.run;
       faulty = counted ∙ ap (λ n. n + cond (is_fault e) 1 0) r.faulty ∙ sym (count_more r.connections c);
     }
 
@@ -106,7 +141,7 @@ pub starts : {C R W K : Type 0} (gives : C → ℕ → C → Type 0) (remaining 
 starts gives remaining contents clock old k keeper s one same = record {
   state = s;
   same = same;
-  runs = record { connections = []; moments = []; told = refl; served = tt; held = refl; opened = none_opened k keeper s one same; survives = survives_same still; run = (refl, refl); without = runs_without s s [] [] (refl, refl); repeats = runs_act_once s s [] [] (refl, refl); faulty = refl };
+  runs = record { connections = []; moments = []; told = refl; served = tt; held = refl; opened = none_opened k keeper s one same; run = (refl, refl); lasts = none_lasts k keeper s; survives = survives_same still; without = runs_without s s [] [] (refl, refl); repeats = runs_act_once s s [] [] (refl, refl); faulty = refl };
 }
 
 -- at the end of the list

@@ -7,7 +7,7 @@ use Rattle.std.specs.Io.KnownBytes.{Appends, Keeps, prepend_known}
 use Rattle.sigtext.specs.Counts.{Rose}
 use Rattle.keeper.specs.declared.keep.Keeper.{Ghosts}
 use Rattle.boxes.specs.State.{State}
-use Rattle.wire.specs.Feeds.{ahead_of, stood_at}
+use Rattle.wire.specs.Feeds.{ahead_of, resumed_at}
 use Rattle.wire.specs.Whole.{MayBegin}
 use Rattle.wire.specs.declared.counted.Counted.{Counted}
 use Rattle.wire.specs.declared.feed.Place.{Place}
@@ -16,7 +16,7 @@ use Rattle.wire.specs.declared.standing.Standing.{Standing}
 use Rattle.office.specs.Begins.{may_begin}
 use Rattle.office.specs.Connections.{TellsMoments}
 use Rattle.office.specs.Crashes.{Survives}
-use Rattle.office.specs.Interleaved.{Interleaved, SpeakInTurns, Thread, Turn, acts_in}
+use Rattle.office.specs.Interleaved.{GaveUpWithinMessages, HaveGivenUp, Interleaved, SpeakInTurns, Thread, Turn, acts_in}
 use Rattle.office.specs.Premise.{IsLeft}
 use Rattle.office.specs.Repeats.{RepeatsOnce}
 use Rattle.office.specs.Seats.{AreThreads, Gathers, HaveTurns, LastsOver, Sends, IsNew, IsStreamOf, StaysSo, TakesTurn, TellsOneMoment, TellsTurn, TellsTurnOf, had_ended, went_on, ended, left_of, turns_of}
@@ -25,11 +25,12 @@ use Rattle.office.specs.Stepping.{Steps, TellsStep}
 use Rattle.office.specs.declared.connections.seat.Seat.{Seat}
 use Rattle.office.specs.declared.connections.session.SessionEnd.{SessionEnd}
 use Rattle.office.proofs.Counting.{AllTook, took_of}
+use Rattle.office.proofs.Endurance.{survives_more}
 use Rattle.office.proofs.Repeats.{repeats_once}
 use Rattle.office.proofs.RunSoFar.{MeansOne}
-use Rattle.office.proofs.Sitting.{Sitting, answered, closed, gathered, sent_on}
+use Rattle.office.proofs.Sitting.{Lost, Sitting, answered, closed, gathered, sent_on}
 use Rattle.office.proofs.Ties.{none_is}
-use Rattle.office.proofs.Weaving.{AreThreadsOf, IsThreadOf, SoFar, all_last, answered_more, closed_more, finishes, gathered_more, none_gave_up, opens, sent_more, threads_rose}
+use Rattle.office.proofs.Weaving.{AreThreadsOf, IsThreadOf, SoFar, all_last, answered_more, closed_more, finishes, gathered_more, lost_of, none_gave_up, opens, sent_more, threads_rose}
 
 -- ---- where a message may begin
 
@@ -38,6 +39,15 @@ may_begin_there place.Fresh h = inl refl
 may_begin_there place.Between h = inr refl
 may_begin_there (place.Body n) h = absurd cc
 may_begin_there place.Over h = absurd cc
+
+-- a feed that was resumed there stands between messages
+pub resumed_between : (p : Place) → MayBegin p → resumed_at p ≡ place.Between
+resumed_between place.Fresh h = refl
+resumed_between place.Between h = refl
+resumed_between (place.Body n) (inl h) = absurd cc
+resumed_between (place.Body n) (inr h) = absurd cc
+resumed_between place.Over (inl h) = absurd cc
+resumed_between place.Over (inr h) = absurd cc
 
 pub none_of : (e : Option SessionEnd) → is_some e ≡ false → e ≡ None
 none_of None h = refl
@@ -57,14 +67,14 @@ steps_by gives p p' old old' new new' reader reader' output output' clock clock'
     (subst (λ x. Steps gives p old x reader' output output' clock clock' k keeper keeper' s e) en
     (subst (λ x. Steps gives p old new x output output' clock clock' k keeper keeper' s e) er h)))
 
--- the step of a feed that stood where its seat's feed stood
+-- the step of a feed that was resumed with what its seat's feed had read
 pub steps_of : {C K R W : Type 0} (gives : C → ℕ → C → Type 0) (remaining : R → Option (List ℕ)) (seat : Seat R W) (standing : Standing) (new reader output output' : Option (List ℕ)) (clock clock' : C) (k : Ghosts K) (keeper keeper' : K)
     (s : State) (e e' : Option SessionEnd) → standing ≡ seat.standing → e ≡ e'
-    → Steps gives (stood_at standing) (prepend_known (ahead_of standing) (remaining seat.reader.inner)) new reader output output' clock clock' k keeper keeper' s e
-    → Steps gives (stood_at seat.standing) (left_of remaining seat) new reader output output' clock clock' k keeper keeper' s e'
+    → Steps gives place.Between (prepend_known (ahead_of standing) (remaining seat.reader.inner)) new reader output output' clock clock' k keeper keeper' s e
+    → Steps gives place.Between (left_of remaining seat) new reader output output' clock clock' k keeper keeper' s e'
 steps_of gives remaining seat standing new reader output output' clock clock' k keeper keeper' s e e' is ended_so h =
-    subst (λ x. Steps gives (stood_at seat.standing) (left_of remaining seat) new reader output output' clock clock' k keeper keeper' s x) ended_so
-    (subst (λ (x : Standing). Steps gives (stood_at x) (prepend_known (ahead_of x) (remaining seat.reader.inner)) new reader output output' clock clock' k keeper keeper' s e) is h)
+    subst (λ x. Steps gives place.Between (left_of remaining seat) new reader output output' clock clock' k keeper keeper' s x) ended_so
+    (subst (λ (x : Standing). Steps gives place.Between (prepend_known (ahead_of x) (remaining seat.reader.inner)) new reader output output' clock clock' k keeper keeper' s e) is h)
 
 -- ---- the faults that were told
 
@@ -141,8 +151,8 @@ module _ {R W : Type 0} where
 -- ---- seats as sittings
 
 module _ {R W : Type 0} (remaining : R → Option (List ℕ)) (contents : W → Option (List ℕ)) where
-  abbrev pub sitting_of : Seat R W → Seat R W → Bool → Sitting
-  sitting_of first now gave_up = record {
+  abbrev pub sitting_of : Seat R W → Seat R W → Bool → Option Lost → Sitting
+  sitting_of first now gave_up lost = record {
     input = left_of remaining first;
     left = left_of remaining now;
     reader = remaining now.reader.inner;
@@ -151,20 +161,21 @@ module _ {R W : Type 0} (remaining : R → Option (List ℕ)) (contents : W → 
     served = now.served;
     end = now.end;
     gave_up = gave_up;
+    lost = lost;
   }
 
   abbrev pub AreSittings : List (Seat R W) → List (Seat R W) → List Sitting → Type 0
   AreSittings [] [] [] = ⊤
-  AreSittings (f ∷ fs) (n ∷ ns) (x ∷ xs) = (x ≡ sitting_of f n x.gave_up) × AreSittings fs ns xs
+  AreSittings (f ∷ fs) (n ∷ ns) (x ∷ xs) = (x ≡ sitting_of f n x.gave_up x.lost) × AreSittings fs ns xs
   AreSittings fs ns xs = ⊥
 
   -- The sitting in place p: its connection as it was at first, and that another seat of the same connection
   -- may take the place.
   record StandsThere (fs ns : List (Seat R W)) (xs : List Sitting) (p : ℕ) (now : Seat R W) (x : Sitting) : Type 0 where
     pub first : Seat R W
-    pub is : x ≡ sitting_of first now x.gave_up
+    pub is : x ≡ sitting_of first now x.gave_up x.lost
     pub within : p < length xs
-    pub more : (new : Seat R W) (y : Sitting) → y ≡ sitting_of first new y.gave_up → AreSittings fs (set ns p new) (set xs p y)
+    pub more : (new : Seat R W) (y : Sitting) → y ≡ sitting_of first new y.gave_up y.lost → AreSittings fs (set ns p new) (set xs p y)
 
   stands_there : (fs ns : List (Seat R W)) (xs : List Sitting) (p : ℕ) (d : Seat R W) (dx : Sitting) → p < length ns → AreSittings fs ns xs
       → StandsThere fs ns xs p (get_or ns p d) (get_or xs p dx)
@@ -178,7 +189,7 @@ module _ {R W : Type 0} (remaining : R → Option (List ℕ)) (contents : W → 
       let rest = stands_there fs ns xs p d dx (omega (arith, lt)) h.1 in
       record { first = rest.first; is = rest.is; within = omega (arith, rest.within); more = λ new y is. (h.0, rest.more new y is) }
 
-  are_more : (fs ns : List (Seat R W)) (xs : List Sitting) (new : Seat R W) → AreSittings fs ns xs → AreSittings (fs ++ new ∷ []) (ns ++ new ∷ []) (xs ++ sitting_of new new false ∷ [])
+  are_more : (fs ns : List (Seat R W)) (xs : List Sitting) (new : Seat R W) → AreSittings fs ns xs → AreSittings (fs ++ new ∷ []) (ns ++ new ∷ []) (xs ++ sitting_of new new false None ∷ [])
   are_more [] [] [] new h = (refl, tt)
   are_more [] [] (x ∷ xs) new h = absurd h
   are_more [] (n ∷ ns) xs new h = absurd h
@@ -194,11 +205,11 @@ module _ {R W : Type 0} (remaining : R → Option (List ℕ)) (contents : W → 
     pub so_far : SoFar gives k sittings whose clock clock' keeper keeper' s after
 
   -- the sitting is the same if as many messages were served and the connection ended the same way
-  same_sitting : (first new : Seat R W) (served : ℕ) (e : Option SessionEnd) (gave_up : Bool) → new.served ≡ served → new.end ≡ e
-      → record (sitting_of first new gave_up) { served = served; end = e } ≡ sitting_of first new gave_up
-  same_sitting first new served e gave_up same is =
-      ap (λ (n : ℕ). record (sitting_of first new gave_up) { served = n; end = e }) (sym same)
-      ∙ ap (λ (o : Option SessionEnd). record (sitting_of first new gave_up) { served = new.served; end = o }) (sym is)
+  same_sitting : (first new : Seat R W) (served : ℕ) (e : Option SessionEnd) (gave_up : Bool) (lost : Option Lost) → new.served ≡ served → new.end ≡ e
+      → record (sitting_of first new gave_up lost) { served = served; end = e } ≡ sitting_of first new gave_up lost
+  same_sitting first new served e gave_up lost same is =
+      ap (λ (n : ℕ). record (sitting_of first new gave_up lost) { served = n; end = e }) (sym same)
+      ∙ ap (λ (o : Option SessionEnd). record (sitting_of first new gave_up lost) { served = new.served; end = o }) (sym is)
 
   module _ {C K : Type 0} {whose : List ℕ} (gives : C → ℕ → C → Type 0) (k : Ghosts K) (fs ns : List (Seat R W)) (clock clock' clock'' : C) (keeper keeper' keeper'' : K) (s mid after : State)
       (p : ℕ) (d new : Seat R W) (lt : p < length ns) (open_there : (get_or ns p d).end ≡ None) where
@@ -206,61 +217,61 @@ module _ {R W : Type 0} (remaining : R → Option (List ℕ)) (contents : W → 
         → TurnsMore gives k fs ns whose clock clock' keeper keeper' s mid → TurnsMore gives k fs (set ns p new) (whose ++ p ∷ []) clock clock'' keeper keeper'' s after
     turns_more (had_ended e is same_seat same_clock same_keeper same_state) t = absurd (none_is e (sym open_there ∙ is))
     turns_more (went_on was_open is_open served goes) t =
-        let dx = sitting_of d d false in
+        let dx = sitting_of d d false None in
         let at = stands_there fs ns t.sittings p d dx lt t.are in
         let old = get_or ns p d in
         let x = get_or t.sittings p dx in
-        let z = sitting_of at.first old x.gave_up in
+        let z = sitting_of at.first old x.gave_up x.lost in
         let y = answered z (left_of remaining new) (remaining new.reader.inner) (contents new.writer.inner) in
         record {
           sittings = set t.sittings p y;
-          are = at.more new y (same_sitting at.first new (old.served + 1) old.end x.gave_up served (is_open ∙ sym was_open));
+          are = at.more new y (same_sitting at.first new (old.served + 1) old.end x.gave_up x.lost served (is_open ∙ sym was_open));
           so_far = answered_more gives k t.sittings clock clock' keeper keeper' s mid t.so_far p dx z at.within at.is was_open
               (left_of remaining new) (remaining new.reader.inner) (contents new.writer.inner) clock'' keeper'' after (subst (λ n. n ≤ most_messages) served new.few) goes;
         }
-    turns_more (ended n e was_open is served sum serves once) t =
-        let dx = sitting_of d d false in
+    turns_more (ended n e was_open is served sum serves once begun) t =
+        let dx = sitting_of d d false None in
         let at = stands_there fs ns t.sittings p d dx lt t.are in
         let old = get_or ns p d in
         let x = get_or t.sittings p dx in
-        let z = sitting_of at.first old x.gave_up in
-        let y = closed z (left_of remaining new) (remaining new.reader.inner) (contents new.writer.inner) e serves.gave_up in
+        let z = sitting_of at.first old x.gave_up x.lost in
+        let y = closed z (left_of remaining new) (remaining new.reader.inner) (contents new.writer.inner) e serves.gave_up (lost_of serves.session) in
         record {
           sittings = set t.sittings p y;
-          are = at.more new y (same_sitting at.first new old.served (Some e) serves.gave_up served is);
+          are = at.more new y (same_sitting at.first new old.served (Some e) serves.gave_up (lost_of serves.session) served is);
           so_far = closed_more gives k t.sittings clock clock' keeper keeper' s mid t.so_far p dx z at.within at.is was_open
-              (left_of remaining new) (remaining new.reader.inner) (contents new.writer.inner) clock'' keeper'' after n e sum serves once;
+              (left_of remaining new) (remaining new.reader.inner) (contents new.writer.inner) clock'' keeper'' after n e sum serves once begun;
         }
 
   -- ---- between two turns
 
   -- the sitting is the same except for what was sent
-  sent_is : (first old new : Seat R W) (gave_up : Bool) → Sends contents old new → sent_on (sitting_of first old gave_up) (contents new.writer.inner) ≡ sitting_of first new gave_up
-  sent_is first old new gave_up g =
-      ap (λ (l : Standing). record (sitting_of first new gave_up) { left = prepend_known (ahead_of l) (remaining old.reader.inner); reader = remaining old.reader.inner; served = old.served; end = old.end }) (sym g.standing)
-      ∙ ap (λ (r : Counted R). record (sitting_of first new gave_up) { left = prepend_known (ahead_of new.standing) (remaining r.inner); reader = remaining r.inner; served = old.served; end = old.end }) (sym g.reader)
-      ∙ same_sitting first new old.served old.end gave_up g.served g.end
+  sent_is : (first old new : Seat R W) (gave_up : Bool) (lost : Option Lost) → Sends contents old new → sent_on (sitting_of first old gave_up lost) (contents new.writer.inner) ≡ sitting_of first new gave_up lost
+  sent_is first old new gave_up lost g =
+      ap (λ (l : Standing). record (sitting_of first new gave_up lost) { left = prepend_known (ahead_of l) (remaining old.reader.inner); reader = remaining old.reader.inner; served = old.served; end = old.end }) (sym g.standing)
+      ∙ ap (λ (r : Counted R). record (sitting_of first new gave_up lost) { left = prepend_known (ahead_of new.standing) (remaining r.inner); reader = remaining r.inner; served = old.served; end = old.end }) (sym g.reader)
+      ∙ same_sitting first new old.served old.end gave_up lost g.served g.end
 
   module _ {C K : Type 0} {whose : List ℕ} (gives : C → ℕ → C → Type 0) (k : Ghosts K) (fs ns : List (Seat R W)) (clock clock' : C) (keeper keeper' : K) (s mid : State) where
     pub gathered_seat : (p : ℕ) (d new : Seat R W) → p < length ns → (get_or ns p d).end ≡ None → Gathers remaining (get_or ns p d) new
         → TurnsMore gives k fs ns whose clock clock' keeper keeper' s mid → TurnsMore gives k fs (set ns p new) whose clock clock' keeper keeper' s mid
     gathered_seat p d new lt is_open g t =
-        let dx = sitting_of d d false in
+        let dx = sitting_of d d false None in
         let at = stands_there fs ns t.sittings p d dx lt t.are in
         let old = get_or ns p d in
         let x = get_or t.sittings p dx in
-        let z = sitting_of at.first old x.gave_up in
+        let z = sitting_of at.first old x.gave_up x.lost in
         let y = gathered z (left_of remaining new) (remaining new.reader.inner) in
         record {
           sittings = set t.sittings p y;
-          are = at.more new y (ap (λ (w : Counted W). record y { written = contents w.inner }) (sym g.writer) ∙ same_sitting at.first new old.served old.end x.gave_up g.served g.end);
+          are = at.more new y (ap (λ (w : Counted W). record y { written = contents w.inner }) (sym g.writer) ∙ same_sitting at.first new old.served old.end x.gave_up x.lost g.served g.end);
           so_far = gathered_more gives k t.sittings clock clock' keeper keeper' s mid t.so_far p dx z at.within at.is is_open (left_of remaining new) (remaining new.reader.inner) g.keeps;
         }
 
     pub sent_seat : (p : ℕ) (d new : Seat R W) → p < length ns → Sends contents (get_or ns p d) new
         → TurnsMore gives k fs ns whose clock clock' keeper keeper' s mid → TurnsMore gives k fs (set ns p new) whose clock clock' keeper keeper' s mid
     sent_seat p d new lt g t =
-        let dx = sitting_of d d false in
+        let dx = sitting_of d d false None in
         let at = stands_there fs ns t.sittings p d dx lt t.are in
         let old = get_or ns p d in
         let x = get_or t.sittings p dx in
@@ -268,17 +279,17 @@ module _ {R W : Type 0} (remaining : R → Option (List ℕ)) (contents : W → 
         let was : x.written ≡ contents old.writer.inner = ap (λ (z : Sitting). z.written) at.is in
         record {
           sittings = set t.sittings p y;
-          are = at.more new y (ap (λ (z : Sitting). sent_on z (contents new.writer.inner)) at.is ∙ sent_is at.first old new x.gave_up g);
+          are = at.more new y (ap (λ (z : Sitting). sent_on z (contents new.writer.inner)) at.is ∙ sent_is at.first old new x.gave_up x.lost g);
           so_far = sent_more gives k t.sittings clock clock' keeper keeper' s mid t.so_far p dx (contents new.writer.inner) at.within (subst (λ a. Keeps a (contents new.writer.inner)) (sym was) g.holds);
         }
 
     pub seat_comes : (new : Seat R W) → IsNew new → TurnsMore gives k fs ns whose clock clock' keeper keeper' s mid
         → TurnsMore gives k (fs ++ new ∷ []) (ns ++ new ∷ []) whose clock clock' keeper keeper' s mid
     seat_comes new is t = record {
-      sittings = t.sittings ++ sitting_of new new false ∷ [];
+      sittings = t.sittings ++ sitting_of new new false None ∷ [];
       are = are_more fs ns t.sittings new t.are;
-      so_far = opens gives k t.sittings clock clock' keeper keeper' s mid t.so_far (sitting_of new new false)
-          (record { all = refl; unwritten = refl; none = is.none; open_still = is.open_still; marked = refl });
+      so_far = opens gives k t.sittings clock clock' keeper keeper' s mid t.so_far (sitting_of new new false None)
+          (record { all = refl; unwritten = refl; none = is.none; open_still = is.open_still; marked = refl; unlost = refl });
     }
 
   -- reading ahead counts no fault
@@ -290,7 +301,7 @@ module _ {R W : Type 0} (remaining : R → Option (List ℕ)) (contents : W → 
 
   -- ---- the end
 
-  stream_is : (x : Sitting) (first now : Seat R W) (c : Thread) → x ≡ sitting_of first now x.gave_up → IsThreadOf x c
+  stream_is : (x : Sitting) (first now : Seat R W) (c : Thread) → x ≡ sitting_of first now x.gave_up x.lost → IsThreadOf x c
       → IsStreamOf c.gave_up c.end (left_of remaining first) (left_of remaining now) (remaining now.reader.inner) c.stream
   stream_is x first now c is h =
       let here : IsStreamOf x.gave_up x.end (left_of remaining first) (left_of remaining now) (remaining now.reader.inner) c.stream =
@@ -317,7 +328,7 @@ module _ {R W : Type 0} (remaining : R → Option (List ℕ)) (contents : W → 
 
   -- ---- how many turns the connections took
 
-  same_took : (first now : Seat R W) (x : Sitting) → x ≡ sitting_of first now x.gave_up → took_of x ≡ turns_of now
+  same_took : (first now : Seat R W) (x : Sitting) → x ≡ sitting_of first now x.gave_up x.lost → took_of x ≡ turns_of now
   same_took first now x is = ap took_of is
 
   have_turns : (turns : List Turn) (i : ℕ) (fs ns : List (Seat R W)) (xs : List Sitting) → AreSittings fs ns xs → AllTook turns i xs → HaveTurns turns i ns
@@ -349,10 +360,11 @@ module _ {R W : Type 0} (remaining : R → Option (List ℕ)) (contents : W → 
     pub each_counted : HaveTurns run.turns 0 ns
     pub one_moment : AllByRecursion TellsOneMoment run.turns
     pub by_turns : SpeakInTurns run.turns 0 threads
+    pub begun : GaveUpWithinMessages run.turns 0 threads
     pub repeats : RepeatsOnce (acts_in run.turns)
     pub stays : StaysSo k threads keeper keeper' after
     pub lasts : LastsOver k threads keeper keeper' s after
-    pub survives : Survives k keeper keeper' s after
+    pub survives : Survives k keeper keeper' (HaveGivenUp run.turns 0 threads) s after
 
   module _ {C K : Type 0} {whose : List ℕ} (gives : C → ℕ → C → Type 0) (k : Ghosts K) (fs ns : List (Seat R W)) (clock clock' : C) (keeper keeper' : K) (s mid : State) where
     pub weaves_last : TurnsMore gives k fs ns whose clock clock' keeper keeper' s mid → AllTell fs ns → MeansOne k keeper' → IsLeft (k.means keeper') mid
@@ -370,6 +382,7 @@ module _ {R W : Type 0} (remaining : R → Option (List ℕ)) (contents : W → 
           each_counted = have_turns w.run.turns 0 fs ns t.sittings t.are w.counts.each;
           one_moment = w.counts.one_moment;
           by_turns = w.by_turns;
+          begun = w.begun;
           repeats = repeats_once s (acts_in w.run.turns) mid w.run.order;
           stays = record {
             counted = λ none. (t.so_far.held (none_gave_up t.sittings w.threads w.are none)).0;
@@ -379,5 +392,5 @@ module _ {R W : Type 0} (remaining : R → Option (List ℕ)) (contents : W → 
                 (now, λ u means. one u mid now means left.means);
           };
           lasts = λ all. t.so_far.lasts (all_last t.sittings w.threads w.are all);
-          survives = t.so_far.survives;
+          survives = survives_more w.lost t.so_far.survives;
         }

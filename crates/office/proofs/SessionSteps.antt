@@ -1,5 +1,5 @@
 -- One step of a session, and a step before the steps that follow.
-use Rattle.std.proofs.Common.{◌≡◌, ◌<◌, ◌≤◌, ◌+◌, ◌-◌, ℕ, suc, Bool, true, false, List, [], ◌∷◌, ◌++◌, length, Option, Some, None, ◌⊎◌, inl, inr, refl, sym, ap, subst, ◌∙◌, append_assoc, arith}
+use Rattle.std.proofs.Common.{◌≡◌, ◌≢◌, ◌<◌, ◌≤◌, ◌+◌, ◌-◌, ℕ, suc, Bool, true, false, List, [], ◌∷◌, ◌++◌, length, Option, Some, None, ◌⊎◌, inl, inr, refl, sym, ap, subst, ◌∙◌, append_assoc, arith}
 use Rattle.std.proofs.lemmas.List.{append-nil}
 use Rattle.std.specs.Io.KnownBytes.{Appends, Consumes, IsAtEnd, prepend_known}
 use Rattle.sigtext.specs.declared.field.Field.{Field}
@@ -29,6 +29,7 @@ use Rattle.office.specs.Handling.{Handles, answered, gave_up_at, broke, broke_gi
 use Rattle.office.specs.Premise.{HoldsUp, IsLeft, WasKept}
 use Rattle.office.proofs.KeeperCalls.{Quiet}
 use Rattle.office.specs.Sessions.{EndsAtOnce, HasBegunMessage, Session, MayGiveUpReading}
+use Rattle.office.proofs.Begun.{message_begun, none_begun}
 use Rattle.office.specs.Sessions as session
 use Rattle.office.specs.Stepping.{Goes, IsClosed, Steps, ToCome}
 
@@ -174,6 +175,10 @@ pub none_ends : {C K : Type 0} (gives : C → ℕ → C → Type 0) (left reader
 unfolding serves_none
 none_ends gives left reader output clock k keeper s = tt
 
+pub none_gives_up : {C K : Type 0} (gives : C → ℕ → C → Type 0) (left reader output : Option (List ℕ)) (clock : C) (k : Ghosts K) (keeper : K) (s : State) {P : Type 0} → (serves_none gives left reader output clock k keeper s).gave_up ≡ true → P
+unfolding serves_none
+none_gives_up gives left reader output clock k keeper s given = none_begun given
+
 -- a session that ends in its first step takes at most one moment
 pub few_moments : {n : ℕ} {stream : List ℕ} {s : State} {moments out : List ℕ} {e : SessionEnd} {gave_up : Bool} {after : State}
     → (x : Session n stream s moments out e gave_up after) → EndsAtOnce x → length moments ≤ 1
@@ -212,10 +217,11 @@ module _ {C K : Type 0} (gives : C → ℕ → C → Type 0) (p : Place) (left r
         written = appends;
         held = held_to k keeper keeper' true (Refused 40) less (refused_no_read 40);
         lasts = given_no_more (Refused 40) (refused_no_read 40);
-        survives = survives_asked r now asks;
         session = session.gave_up_at n ((text ++ body) ++ waits) waits s r now (stands waits) readable;
+        survives = survives_asked r now (refl, refl) asks;
       },
       tt,
+      λ other given. message_begun ((text ++ body) ++ waits) waits r (stands waits) readable,
     ),
   )
 
@@ -239,6 +245,7 @@ module _ {C K : Type 0} (gives : C → ℕ → C → Type 0) (p : Place) (left r
             session = session.write_failed n ((text ++ body) ++ rest) rest s after r now written front (stands rest) answers begins;
           },
           tt,
+          λ other given. none_begun given,
         ),
       )
   broken_step (broke_giving_up_at now front told appends begins less asks readable keeps) = (
@@ -255,10 +262,11 @@ module _ {C K : Type 0} (gives : C → ℕ → C → Type 0) (p : Place) (left r
         written = appends;
         held = held_to k keeper keeper' true WriteFault less write_no_read;
         lasts = given_no_more WriteFault write_no_read;
-        survives = survives_asked r now asks;
         session = session.write_failed_giving_up_at n ((text ++ body) ++ waits) waits s r now front (stands waits) readable begins;
+        survives = survives_asked r now (refl, refl) asks;
       },
       tt,
+      λ other given. message_begun ((text ++ body) ++ waits) waits r (stands waits) readable,
     ),
   )
 
@@ -296,8 +304,8 @@ LastStep n stream s text e gave_up = (x : Session (suc n) stream s [] text e gav
 module _ {C K : Type 0} (gives : C → ℕ → C → Type 0) (p : Place) (left left' reader output output' : Option (List ℕ)) (clock : C) (k : Ghosts K) (keeper keeper' : K) (s : State) where
   -- the session ends, and the state is unchanged
   pub ends : (e : SessionEnd) (gave_up : Bool) (stream text : List ℕ) → Leaves k keeper keeper' s gave_up → (gave_up ≡ true → e ≡ ReadFault → Rose (k.faults keeper) (k.faults keeper')) → IsStream gave_up e left reader stream → Appends output output' text
-      → ((n : ℕ) → ToCome p (suc n) → LastStep n stream s text e gave_up) → Steps gives p left left' reader output output' clock clock k keeper keeper' s (Some e)
-  ends e gave_up stream text leaves rose read written whole = (
+      → (p ≢ place.Fresh → gave_up ≡ true → HasBegunMessage stream) → ((n : ℕ) → ToCome p (suc n) → LastStep n stream s text e gave_up) → Steps gives p left left' reader output output' clock clock k keeper keeper' s (Some e)
+  ends e gave_up stream text leaves rose read written begun whole = (
     s,
     leaves.keeps,
     λ n all. (
@@ -315,16 +323,17 @@ module _ {C K : Type 0} (gives : C → ℕ → C → Type 0) (p : Place) (left l
         session = (whole n all).0;
       },
       (whole n all).1,
+      begun,
     ),
   )
 
   pub closed_step : (q : Refusal) (e : SessionEnd) → Leaves k keeper keeper' s false → OfStream left (λ stream. Next stream (frame.Refused q) []) → IsClosed output output' q e
       → Steps gives p left left' reader output output' clock clock k keeper keeper' s (Some e)
   closed_step q (Refused number) leaves o closed =
-      ends (Refused number) false o.stream (session.closing q) leaves (λ gave is. absurd (refused_no_read number is)) (is_stream left (λ stream. Next stream (frame.Refused q) []) o) closed.1
+      ends (Refused number) false o.stream (session.closing q) leaves (λ gave is. absurd (refused_no_read number is)) (is_stream left (λ stream. Next stream (frame.Refused q) []) o) closed.1 (λ other given. none_begun given)
       (λ n _. subst (λ (m : ℕ). LastStep n o.stream s (session.closing q) (Refused m) false) (sym closed.0) (session.unframed n o.stream s q o.holds, tt))
   closed_step q WriteFault leaves o closed =
-      ends WriteFault false o.stream closed.0 leaves (λ gave is. absurd (write_no_read is)) (is_stream left (λ stream. Next stream (frame.Refused q) []) o) closed.1
+      ends WriteFault false o.stream closed.0 leaves (λ gave is. absurd (write_no_read is)) (is_stream left (λ stream. Next stream (frame.Refused q) []) o) closed.1 (λ other given. none_begun given)
       (λ n _. (session.write_failed_unframed n o.stream s q closed.0 o.holds closed.2, tt))
   closed_step q Ended leaves o closed = absurd closed
   closed_step q Truncated leaves o closed = absurd closed
@@ -335,14 +344,18 @@ module _ {C K : Type 0} (gives : C → ℕ → C → Type 0) (p : Place) (left l
   why_reading n front (inl (fresh, none)) all = inl (all fresh, none)
   why_reading n front (inr a) all = inr a
 
+  begun_unless : (front : List ℕ) → ((p ≡ place.Fresh) × (front ≡ [])) ⊎ HasBegunMessage front → p ≢ place.Fresh → true ≡ true → HasBegunMessage front
+  begun_unless front (inl (fresh, none)) other given = absurd (other fresh)
+  begun_unless front (inr a) other given = a
+
   -- refusal 40 closed the connection before a whole message was read
   pub gave_up_reading_step : (e : SessionEnd) (front : List ℕ) → Leaves k keeper keeper' s true → Consumes left reader front → ((p ≡ place.Fresh) × (front ≡ [])) ⊎ HasBegunMessage front
       → IsClosed output output' rule.TryAgain e → Steps gives p left left' reader output output' clock clock k keeper keeper' s (Some e)
   gave_up_reading_step (Refused number) front leaves taken why closed =
-      ends (Refused number) true front (session.closing rule.TryAgain) leaves (λ gave is. absurd (refused_no_read number is)) taken closed.1
+      ends (Refused number) true front (session.closing rule.TryAgain) leaves (λ gave is. absurd (refused_no_read number is)) taken closed.1 (begun_unless front why)
       (λ n all. subst (λ (m : ℕ). LastStep n front s (session.closing rule.TryAgain) (Refused m) true) (sym closed.0) (session.gave_up_reading n front s (why_reading n front why all), tt))
   gave_up_reading_step WriteFault front leaves taken why closed =
-      ends WriteFault true front closed.0 leaves (λ gave is. absurd (write_no_read is)) taken closed.1 (λ n all. (session.write_failed_giving_up_reading n front s closed.0 (why_reading n front why all) closed.2, tt))
+      ends WriteFault true front closed.0 leaves (λ gave is. absurd (write_no_read is)) taken closed.1 (begun_unless front why) (λ n all. (session.write_failed_giving_up_reading n front s closed.0 (why_reading n front why all) closed.2, tt))
   gave_up_reading_step Ended front leaves taken none closed = absurd closed
   gave_up_reading_step Truncated front leaves taken none closed = absurd closed
   gave_up_reading_step Limit front leaves taken none closed = absurd closed
@@ -351,24 +364,24 @@ module _ {C K : Type 0} (gives : C → ℕ → C → Type 0) (p : Place) (left l
 module _ {C K : Type 0} (gives : C → ℕ → C → Type 0) (p : Place) (left left' reader output : Option (List ℕ)) (clock : C) (k : Ghosts K) (keeper keeper' : K) (s : State) where
   pub ended_step : Leaves k keeper keeper' s false → IsAtEnd reader → OfStream left (λ stream. Next stream frame.Ended []) → Steps gives p left left' reader output output clock clock k keeper keeper' s (Some Ended)
   ended_step leaves at_end o =
-      ends gives p left left' reader output output clock k keeper keeper' s Ended false o.stream [] leaves (λ gave is. absurd (ended_no_read is)) (is_stream left (λ stream. Next stream frame.Ended []) o, at_end) (nothing_written output)
+      ends gives p left left' reader output output clock k keeper keeper' s Ended false o.stream [] leaves (λ gave is. absurd (ended_no_read is)) (is_stream left (λ stream. Next stream frame.Ended []) o, at_end) (nothing_written output) (λ other given. none_begun given)
       (λ n _. (session.ended n o.stream s o.holds, tt))
 
   pub truncated_step : Leaves k keeper keeper' s false → IsAtEnd reader → OfStream left (λ stream. Next stream frame.Truncated []) → Steps gives p left left' reader output output clock clock k keeper keeper' s (Some Truncated)
   truncated_step leaves at_end o =
-      ends gives p left left' reader output output clock k keeper keeper' s Truncated false o.stream [] leaves (λ gave is. absurd (truncated_no_read is)) (is_stream left (λ stream. Next stream frame.Truncated []) o, at_end) (nothing_written output)
+      ends gives p left left' reader output output clock k keeper keeper' s Truncated false o.stream [] leaves (λ gave is. absurd (truncated_no_read is)) (is_stream left (λ stream. Next stream frame.Truncated []) o, at_end) (nothing_written output) (λ other given. none_begun given)
       (λ n _. (session.truncated n o.stream s o.holds, tt))
 
   pub read_failed_step : (front : List ℕ) → Leaves k keeper keeper' s false → Consumes left reader front → Awaits front → Steps gives p left left' reader output output clock clock k keeper keeper' s (Some ReadFault)
   read_failed_step front leaves taken none =
-      ends gives p left left' reader output output clock k keeper keeper' s ReadFault false front [] leaves (λ gave is. absurd (false_no_true gave)) taken (nothing_written output)
+      ends gives p left left' reader output output clock k keeper keeper' s ReadFault false front [] leaves (λ gave is. absurd (false_no_true gave)) taken (nothing_written output) (λ other given. none_begun given)
       (λ n _. (session.read_failed n front s none, tt))
 
   -- the same if the keeper counted a fault
   pub read_failed_giving_up_step : (front : List ℕ) → Leaves k keeper keeper' s true → Rose (k.faults keeper) (k.faults keeper') → Consumes left reader front → Awaits front → HasBegunMessage front
       → Steps gives p left left' reader output output clock clock k keeper keeper' s (Some ReadFault)
   read_failed_giving_up_step front leaves rose taken none begun =
-      ends gives p left left' reader output output clock k keeper keeper' s ReadFault true front [] leaves (λ gave is. rose) taken (nothing_written output)
+      ends gives p left left' reader output output clock k keeper keeper' s ReadFault true front [] leaves (λ gave is. rose) taken (nothing_written output) (λ other given. begun)
       (λ n _. (session.read_failed_giving_up n front s none begun, tt))
 
 -- ---- earlier calls that change nothing
@@ -426,6 +439,7 @@ steps_after gives p left left' reader output output' clock clock' k a b c s (Som
           session = r.session;
         },
         both.1,
+        both.2,
       ),
 )
 
@@ -454,7 +468,8 @@ module _ {C K : Type 0} (gives : C → ℕ → C → Type 0) (counter : ℕ) (le
   }
 
   pub follows_end : (p : Place) (reader last : Option (List ℕ)) (end : C) (sum : K) (after : State) (e : SessionEnd) → counter < session.most_messages → (p ≡ place.Fresh → counter ≡ 0)
-      → ((n : ℕ) → ToCome p (suc n) → (serves : Serves (suc n) gives left' reader output' last clock' end k keeper' sum mid after e) × EndsAtOnce serves.session) → Serves session.most_messages gives left reader output last clock end k keeper sum s after e
+      → ((n : ℕ) → ToCome p (suc n) → (serves : Serves (suc n) gives left' reader output' last clock' end k keeper' sum mid after e) × EndsAtOnce serves.session × (p ≢ place.Fresh → serves.gave_up ≡ true → HasBegunMessage serves.stream))
+      → Serves session.most_messages gives left reader output last clock end k keeper sum s after e
   follows_end p reader last end sum after e lt first serves =
       f.whole (suc (999 - counter)) reader last end sum after e (omega (arith, lt)) (serves (999 - counter) (λ fresh. omega (arith, first fresh))).0
 

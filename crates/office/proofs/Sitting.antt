@@ -1,20 +1,34 @@
 -- One connection among others as it is now, and the effect of a turn on it.
-use Rattle.std.proofs.Common.{◌≡◌, ◌≤◌, ◌+◌, ℕ, suc, Bool, true, false, List, [], ◌∷◌, ◌++◌, Option, Some, None, sym, ap, subst, ◌∙◌, append_assoc, arith}
+use Rattle.std.proofs.Common.{◌≡◌, ◌≤◌, ◌+◌, ℕ, suc, Bool, true, false, List, [], ◌∷◌, ◌++◌, map, Option, Some, None, refl, sym, ap, subst, ◌∙◌, append_assoc, arith}
 use Rattle.std.proofs.KnownBytes.{Appends-kept, Appends-nil, Appends-trans, Consumes-kept, Consumes-nil, Consumes-trans}
 use Rattle.std.specs.Io.KnownBytes.{Appends, Consumes, Keeps}
+use Rattle.std.proofs.lemmas.List.{append-nil}
+use Rattle.sigtext.specs.Request.{Request}
+use Rattle.wire.specs.Framing.{Next}
+use Rattle.wire.specs.Framing as frame
 use Rattle.keeper.specs.declared.keep.Keeper.{Ghosts}
 use Rattle.boxes.specs.State.{State}
 use Rattle.office.specs.Connections.{IsKnown, IsStream}
-use Rattle.office.specs.Interleaved.{AnswersNone, Speaks, SpeaksInTurns, Turn}
+use Rattle.office.specs.Interleaved.{AnswersNone, GaveUpWithin, HasGivenUp, IsBehind, Speaks, SpeaksInTurns, Turn, acts_in, moments_in}
 use Rattle.office.specs.Interleaved as said
 use Rattle.office.specs.Repeats.{Act, text_of}
-use Rattle.office.specs.Sessions.{most_messages}
+use Rattle.office.specs.Sessions.{HasBegunMessage, most_messages}
 use Rattle.office.specs.Stepping.{Goes}
 use Rattle.office.specs.declared.connections.session.SessionEnd.{SessionEnd}
 use Rattle.office.specs.declared.connections.session.SessionEnd.TheVariants.{Ended, Truncated, Refused, Limit, ReadFault, WriteFault}
 
+-- a request that was given up, and its moment
+pub record Lost : Type 0 where
+  pub request : Request
+  pub moment : ℕ
+
+abbrev pub IsLost : Option Lost → Request → ℕ → Type 0
+IsLost None r now = ⊥
+IsLost (Some l) r now = (r ≡ l.request) × (now ≡ l.moment)
+
 -- Known bytes: of its stream at first, what is left of it in all, and what is left in its reader; of its
--- answers at first and now. Also how many messages were served, how it ended, and whether it gave up.
+-- answers at first and now. Also how many messages were served, how it ended, whether it gave up, and the
+-- request that it gave up, if that was read whole.
 pub record Sitting : Type 0 where
   pub input : Option (List ℕ)
   pub left : Option (List ℕ)
@@ -24,6 +38,10 @@ pub record Sitting : Type 0 where
   pub served : ℕ
   pub end : Option SessionEnd
   pub gave_up : Bool
+  pub lost : Option Lost
+
+abbrev nows : List Act → List ℕ
+nows acts = map (λ (a : Act). a.now) acts
 
 -- An open connection: what was taken and written in these turns, and that all turns that can follow complete
 -- it.
@@ -34,6 +52,9 @@ pub record Heard (x : Sitting) (turns : List Turn) : Type 0 where
   pub written_to : Appends x.output x.written text
   pub few : x.served ≤ most_messages
   pub marked : x.gave_up ≡ false
+  pub unlost : x.lost ≡ None
+  pub tied : moments_in turns ≡ nows (acts_in turns)
+  pub behind : (stream rest : List ℕ) (later : List Act) → IsBehind stream later rest → IsBehind (front ++ stream) (acts_in turns ++ later) rest
   pub follows : (n m : ℕ) (stream : List ℕ) (later : List Turn) (out : List ℕ) (e : Option SessionEnd) (gave_up : Bool) → n + x.served ≡ m
       → SpeaksInTurns n stream later out e gave_up → SpeaksInTurns m (front ++ stream) (turns ++ later) (text ++ out) e gave_up
 
@@ -44,6 +65,8 @@ pub record Closed (x : Sitting) (e : SessionEnd) (turns : List Turn) : Type 0 wh
   pub read : IsStream x.gave_up e x.input x.reader stream
   pub written_to : Appends x.output x.written answers
   pub speaks : SpeaksInTurns most_messages stream turns answers (Some e) x.gave_up
+  pub lost : (r : Request) (now : ℕ) → IsLost x.lost r now → HasGivenUp stream x.gave_up (acts_in turns) (moments_in turns) r now
+  pub begun : GaveUpWithin stream x.gave_up (acts_in turns)
 
 abbrev pub SitsSo : Option SessionEnd → Sitting → List Turn → Type 0
 SitsSo None x turns = Heard x turns
@@ -71,6 +94,21 @@ stream_more false WriteFault a b c x y h k = known_more a b x y h k
 
 -- ---- the same lists, written in another way
 
+pub acts_more : (turns : List Turn) (t : Turn) → acts_in (turns ++ t ∷ []) ≡ acts_in turns ++ t.acts
+acts_more [] t = append-nil t.acts
+acts_more (u ∷ turns) t = ap (λ (x : List Act). u.acts ++ x) (acts_more turns t) ∙ sym (append_assoc u.acts (acts_in turns) t.acts)
+
+pub moments_more : (turns : List Turn) (t : Turn) → moments_in (turns ++ t ∷ []) ≡ moments_in turns ++ t.moments
+moments_more [] t = append-nil t.moments
+moments_more (u ∷ turns) t = ap (λ (x : List ℕ). u.moments ++ x) (moments_more turns t) ∙ sym (append_assoc u.moments (moments_in turns) t.moments)
+
+nows_more : (acts : List Act) (a : Act) → nows acts ++ a.now ∷ [] ≡ nows (acts ++ a ∷ [])
+nows_more [] a = refl
+nows_more (b ∷ acts) a = ap (λ (l : List ℕ). b.now ∷ l) (nows_more acts a)
+
+behind_by : (s s' : List ℕ) (acts acts' : List Act) (rest : List ℕ) → s ≡ s' → acts ≡ acts' → IsBehind s acts rest → IsBehind s' acts' rest
+behind_by s s' acts acts' rest es ea h = subst (λ x. IsBehind x acts' rest) es (subst (λ x. IsBehind s x rest) ea h)
+
 speaks_by : (n : ℕ) (s s' : List ℕ) (t t' : List Turn) (o o' : List ℕ) (e : Option SessionEnd) (g : Bool) → s ≡ s' → t ≡ t' → o ≡ o'
     → SpeaksInTurns n s t o e g → SpeaksInTurns n s' t' o' e g
 speaks_by n s s' t t' o o' e g es et eo h =
@@ -91,6 +129,7 @@ pub record IsFirst (x : Sitting) : Type 0 where
   pub none : x.served ≡ 0
   pub open_still : x.end ≡ None
   pub marked : x.gave_up ≡ false
+  pub unlost : x.lost ≡ None
 
 pub first_sits : (x : Sitting) → IsFirst x → Sits x []
 first_sits x is = sits_open x [] is.open_still (record {
@@ -100,6 +139,9 @@ first_sits x is = sits_open x [] is.open_still (record {
   written_to = subst (λ a. Appends x.output a []) (sym is.unwritten) (Appends-nil x.output);
   few = omega (arith, is.none);
   marked = is.marked;
+  unlost = is.unlost;
+  tied = refl;
+  behind = λ stream rest later h. h;
   follows = λ n m stream later out e gave_up sum sp. let same : n ≡ m = omega (arith, sum, is.none) in subst (λ k. SpeaksInTurns k stream later out e gave_up) same sp;
 })
 
@@ -116,6 +158,9 @@ sent_so x written turns None holds h = record {
   written_to = Appends-kept x.output x.written written h.text h.written_to holds;
   few = h.few;
   marked = h.marked;
+  unlost = h.unlost;
+  tied = h.tied;
+  behind = h.behind;
   follows = h.follows;
 }
 sent_so x written turns (Some e) holds h = record {
@@ -124,6 +169,8 @@ sent_so x written turns (Some e) holds h = record {
   read = h.read;
   written_to = Appends-kept x.output x.written written h.answers h.written_to holds;
   speaks = h.speaks;
+  lost = h.lost;
+  begun = h.begun;
 }
 
 pub sent_sits : (x : Sitting) (written : Option (List ℕ)) (turns : List Turn) → Keeps x.written written → Sits x turns → Sits (sent_on x written) turns
@@ -142,6 +189,9 @@ gathered_sits x left reader turns keeps h = record {
   written_to = h.written_to;
   few = h.few;
   marked = h.marked;
+  unlost = h.unlost;
+  tied = h.tied;
+  behind = h.behind;
   follows = h.follows;
 }
 
@@ -164,6 +214,16 @@ module _ {C K : Type 0} {gives : C → ℕ → C → Type 0} {k : Ghosts K} (x :
     written_to = Appends-trans x.output x.written written h.text g.text h.written_to g.written;
     few = few;
     marked = h.marked;
+    unlost = h.unlost;
+    tied =
+        moments_more turns t ∙ ap (λ (l : List ℕ). moments_in turns ++ l) told ∙ ap (λ (l : List ℕ). l ++ g.moment ∷ []) h.tied
+        ∙ nows_more (acts_in turns) (act_of g) ∙ ap nows (ap (λ (l : List Act). acts_in turns ++ l) (sym acted) ∙ sym (acts_more turns t));
+    behind = λ stream rest later there.
+        let one : IsBehind (g.front ++ stream) (act_of g ∷ later) rest = (stream, g.message stream, there) in
+        behind_by (h.front ++ (g.front ++ stream)) ((h.front ++ g.front) ++ stream) (acts_in turns ++ (act_of g ∷ later)) (acts_in (turns ++ t ∷ []) ++ later) rest
+        (sym (append_assoc h.front g.front stream))
+        (sym (append_assoc (acts_in turns) (act_of g ∷ []) later) ∙ ap (λ (l : List Act). l ++ later) (ap (λ (l : List Act). acts_in turns ++ l) (sym acted) ∙ sym (acts_more turns t)))
+        (h.behind (g.front ++ stream) rest (act_of g ∷ later) one);
     follows = λ n m stream later out e gave_up is sp.
         let a = act_of g in
         let one = said.goes_on n (g.front ++ stream) stream t a later out e gave_up told acted (g.message stream) sp in
@@ -177,17 +237,42 @@ module _ {C K : Type 0} {gives : C → ℕ → C → Type 0} {k : Ghosts K} (x :
 
 -- ---- the connection ends
 
-abbrev pub closed : Sitting → Option (List ℕ) → Option (List ℕ) → Option (List ℕ) → SessionEnd → Bool → Sitting
-closed x left reader written e gave_up = record x { left = left; reader = reader; written = written; end = Some e; gave_up = gave_up }
+abbrev pub closed : Sitting → Option (List ℕ) → Option (List ℕ) → Option (List ℕ) → SessionEnd → Bool → Option Lost → Sitting
+closed x left reader written e gave_up lost = record x { left = left; reader = reader; written = written; end = Some e; gave_up = gave_up; lost = lost }
 
-pub closed_sits : (x : Sitting) (left reader written : Option (List ℕ)) (e : SessionEnd) (gave_up : Bool) (n : ℕ) (stream answers : List ℕ) (t : Turn) (turns : List Turn)
+-- A message was given up in a turn.
+pub record IsLostIn (stream : List ℕ) (gave_up : Bool) (t : Turn) (r : Request) (now : ℕ) : Type 0 where
+  pub marked : gave_up ≡ true
+  pub more : List ℕ
+  pub message : Next stream (frame.Message r) more
+  pub told : t.moments ≡ now ∷ []
+
+pub closed_sits : (x : Sitting) (left reader written : Option (List ℕ)) (e : SessionEnd) (gave_up : Bool) (lost : Option Lost) (n : ℕ) (stream answers : List ℕ) (t : Turn) (turns : List Turn)
     → n + x.served ≡ most_messages → IsStream gave_up e x.left reader stream → Appends x.written written answers
-    → (last : Speaks n stream t.acts t.moments answers (Some e) gave_up) → AnswersNone last
-    → Heard x turns → Closed (closed x left reader written e gave_up) e (turns ++ t ∷ [])
-closed_sits x left reader written e gave_up n stream answers t turns sum read wrote last none h = record {
+    → (last : Speaks n stream t.acts t.moments answers (Some e) gave_up) → AnswersNone last → ((r : Request) (now : ℕ) → IsLost lost r now → IsLostIn stream gave_up t r now)
+    → (gave_up ≡ true → t.acts ≡ []) → (gave_up ≡ true → HasBegunMessage stream)
+    → Heard x turns → Closed (closed x left reader written e gave_up lost) e (turns ++ t ∷ [])
+closed_sits x left reader written e gave_up lost n stream answers t turns sum read wrote last none given unacted begun h = record {
   stream = h.front ++ stream;
   answers = h.text ++ answers;
   read = stream_more gave_up e x.input x.left reader h.front stream h.taken read;
   written_to = Appends-trans x.output x.written written h.text answers h.written_to wrote;
   speaks = h.follows n most_messages stream (t ∷ []) answers (Some e) gave_up sum (said.ends n stream t answers e gave_up last none);
+  lost = λ r now is.
+      let g = given r now is in
+      record {
+        marked = g.marked;
+        rest = stream;
+        more = g.more;
+        behind = there g.marked;
+        message = g.message;
+        told = moments_more turns t ∙ ap (λ (l : List ℕ). moments_in turns ++ l) g.told ∙ ap (λ (l : List ℕ). l ++ now ∷ []) (h.tied ∙ ap nows (sym (append-nil (acts_in turns)) ∙ same g.marked));
+      };
+  begun = λ is. (stream, there is, begun is);
 }
+  where
+    same : gave_up ≡ true → acts_in turns ++ [] ≡ acts_in (turns ++ t ∷ [])
+    same is = ap (λ (l : List Act). acts_in turns ++ l) (sym (unacted is)) ∙ sym (acts_more turns t)
+
+    there : gave_up ≡ true → IsBehind (h.front ++ stream) (acts_in (turns ++ t ∷ [])) stream
+    there is = subst (λ (l : List Act). IsBehind (h.front ++ stream) l stream) (same is) (h.behind stream stream [] refl)

@@ -11,8 +11,8 @@ use Rattle.office.specs.Connections.{TellsMoments, Serves, is_fault}
 use Rattle.office.specs.Premise.{IsLeft}
 use Rattle.office.specs.Replays.{AreAll, InTurn, InTurnOver, TakesTurns, answers_in}
 use Rattle.office.specs.Sessions.{Connection, most_messages}
-use Rattle.office.proofs.Endurance.{still, survives_same, then_survives}
-use Rattle.office.proofs.RunSoFar.{MeansOne, count_more, none_opened, opened_more, run_more}
+use Rattle.office.proofs.Endurance.{still, survives_more, survives_same, then_survives}
+use Rattle.office.proofs.RunSoFar.{MeansOne, count_more, lasts_more, none_lasts, none_opened, opened_more, run_more}
 
 all_more : (moment : ℕ) (xs ys : List ℕ) → AreAll moment xs → AreAll moment ys → AreAll moment (xs ++ ys)
 all_more moment [] ys a b = b
@@ -51,7 +51,7 @@ turn_more gives output mid_output output' input input' clock clock' k keeper kee
       connections = t.connections ++ c ∷ [];
       moments = t.moments ++ served.moments;
       each = all_more moment t.moments served.moments t.each same;
-      run = run_more s mid after c t.connections t.moments served.moments t.run served.session;
+      run = (run_more s mid after c t.connections t.moments served.moments t.run served.session).run;
       written = subst (Appends output output') (sym (answers_more t.connections c)) (Appends-trans output mid_output output' (answers_in t.connections) served.answers t.written served.written);
       many = length-append t.connections (c ∷ []) ∙ ap (λ k. k + 1) t.many ∙ sym more;
       faulty = counted ∙ ap (λ k. k + cond (is_fault e) 1 0) t.faulty ∙ sym (count_more t.connections c);
@@ -61,7 +61,7 @@ turn_more gives output mid_output output' input input' clock clock' k keeper kee
 pub none_over : {K : Type 0} (k : Ghosts K) (keeper : K) (output : Option (List ℕ)) (s : State) (moment : ℕ) → MeansOne k keeper → IsLeft (k.means keeper) s
     → InTurnOver k keeper keeper output output s s moment 0 0
 unfolding no_turn
-none_over k keeper output s moment one left = record { turn = no_turn output s moment; opened = none_opened k keeper s one left; survives = survives_same still }
+none_over k keeper output s moment one left = record { turn = no_turn output s moment; opened = none_opened k keeper s one left; lasts = none_lasts k keeper s; survives = survives_same still }
 
 -- one more was served, over a keeper
 pub over_more : {C K : Type 0} (gives : C → ℕ → C → Type 0) (output mid_output output' input input' : Option (List ℕ)) (clock clock' : C) (k : Ghosts K) (first keeper keeper' : K) (s mid after : State)
@@ -70,11 +70,15 @@ pub over_more : {C K : Type 0} (gives : C → ℕ → C → Type 0) (output mid_
     → Serves most_messages gives input input' mid_output output' clock clock' k keeper keeper' mid after e
     → n' ≡ n + 1 → faults' ≡ faults + cond (is_fault e) 1 0 → InTurnOver k first keeper' output output' s after moment n' faults'
 unfolding turn_more
-over_more gives output mid_output output' input input' clock clock' k first keeper keeper' s mid after moment n n' faults faults' e one left t tells served more counted = record {
-  turn = turn_more gives output mid_output output' input input' clock clock' k keeper keeper' s mid after moment n n' faults faults' e t.turn tells served more counted;
-  opened = opened_more k t.turn.connections (record { stream = served.stream; answers = served.answers; end = e; gave_up = served.gave_up }) first keeper keeper' mid after one left t.opened served.held.0;
-  survives = then_survives t.survives served.survives;
-}
+over_more gives output mid_output output' input input' clock clock' k first keeper keeper' s mid after moment n n' faults faults' e one left t tells served more counted =
+    let c : Connection = record { stream = served.stream; answers = served.answers; end = e; gave_up = served.gave_up } in
+    let x = run_more s mid after c t.turn.connections t.turn.moments served.moments t.turn.run served.session in
+    record {
+      turn = turn_more gives output mid_output output' input input' clock clock' k keeper keeper' s mid after moment n n' faults faults' e t.turn tells served more counted;
+      opened = opened_more k t.turn.connections c first keeper keeper' mid after one left t.opened served.held.0;
+      lasts = lasts_more k t.turn.connections c first keeper keeper' s mid after t.lasts served.lasts;
+      survives = then_survives (survives_more x.earlier t.survives) (survives_more x.last served.survives);
+    }
 
 -- the turns, whatever the keeper does
 pub turns_only : {K : Type 0} (k : Ghosts K) (keeper keeper' : K) (output output' : Option (List ℕ)) (s after : State) (moment : ℕ) (streams : List (Bor (List ℕ))) (result : Result ℕ (Bor (List ℕ)))

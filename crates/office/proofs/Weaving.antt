@@ -1,5 +1,5 @@
 -- The turns of connections so far, one more turn, one more connection, and the result in the end.
-use Rattle.std.proofs.Common.{◌≡◌, ◌<◌, ◌≤◌, ◌+◌, ◌-◌, ◌⊎◌, ℕ, zero, suc, Bool, true, false, cond, List, [], ◌∷◌, ◌++◌, length, get_or, set, Option, Some, None, refl, sym, ap, subst, ◌∙◌, append_assoc, arith, inl, inr}
+use Rattle.std.proofs.Common.{◌≡◌, ◌<◌, ◌≤◌, ◌+◌, ◌-◌, ◌⊎◌, ℕ, zero, suc, Bool, true, false, cond, List, [], ◌∷◌, ◌++◌, length, get_or, set, Option, Some, None, refl, sym, ap, subst, ◌∙◌, arith, inl, inr}
 use Rattle.std.specs.Prelude.{nat_eq, ⊤}
 use Rattle.std.specs.List.{AllByRecursion}
 use Rattle.std.proofs.lemmas.List.{append-nil}
@@ -7,36 +7,32 @@ use Rattle.std.proofs.lemmas.List.Elements.{filter-append}
 use Rattle.std.specs.Io.KnownBytes.{Appends, Keeps}
 use Rattle.keeper.specs.declared.keep.Keeper.{Ghosts}
 use Rattle.sigtext.specs.Counts.{Rose}
+use Rattle.sigtext.specs.Request.{Request}
 use Rattle.boxes.specs.State.{State}
+use Rattle.wire.specs.Framing.{Next}
+use Rattle.wire.specs.Framing as frame
 use Rattle.office.specs.Connections.{Serves, TellsMoments}
 use Rattle.office.specs.Crashes.{LastsThrough, Survives, never_changed}
-use Rattle.office.specs.Interleaved.{AnswersNone, AreSpoken, AreTied, Interleaved, SpeakInTurns, Speaks, SpeaksInTurns, Thread, Turn, acts_in, moments_in, own_acts, own_moments, own_turns}
+use Rattle.office.specs.Interleaved.{AnswersNone, AreSpoken, AreTied, GaveUpWithin, GaveUpWithinMessages, HasGivenUp, HaveGivenUp, Interleaved, SpeakInTurns, Speaks, SpeaksInTurns, Thread, Turn, acts_in, moments_in, own_acts, own_moments, own_turns}
 use Rattle.office.specs.Interleaved as said
 use Rattle.office.specs.Premise.{HoldsUp}
 use Rattle.office.specs.Repeats.{Act, Acts, text_of}
 use Rattle.office.specs.Seats.{IsStreamOf}
-use Rattle.office.specs.Sessions.{EndsAtOnce, most_messages}
+use Rattle.office.specs.Sessions.{EndsAtOnce, GaveUpAt, HasBegunMessage, Session, most_messages}
+use Rattle.office.specs.Sessions as session
 use Rattle.office.specs.Stepping.{Goes}
 use Rattle.office.specs.declared.connections.session.SessionEnd.{SessionEnd}
 use Rattle.office.specs.declared.connections.session.SessionEnd.TheVariants.{ReadFault}
 use Rattle.office.proofs.Counting.{Counts, counts_more, counts_still, counts_turn, over_if, took_of}
-use Rattle.office.proofs.Endurance.{still, survives_same, survives_through, then_survives, then_through}
-use Rattle.office.proofs.Repeats.{last_acts}
+use Rattle.office.proofs.Endurance.{still, survives_more, survives_same, survives_through, then_survives, then_through}
+use Rattle.office.proofs.Repeats.{last_acts, none_acted}
 use Rattle.office.proofs.RunSoFar.{told_more}
 use Rattle.office.proofs.SessionSteps.{few_moments}
 use Rattle.office.proofs.Unstaged.{rose_before, rose_later}
 use Rattle.office.proofs.RunTurns.{acts_joined, less_is_not, none_whole, same_is, speaks_of, tied_of}
-use Rattle.office.proofs.Sitting.{Sitting, Sits, SitsSo, IsFirst, act_of, answered, answered_sits, closed, closed_sits, first_sits, gathered, gathered_sits, open_sits, sent_on, sent_sits, sits_open}
+use Rattle.office.proofs.Sitting.{IsLost, IsLostIn, Lost, Sitting, Sits, SitsSo, IsFirst, act_of, acts_more, moments_more, answered, answered_sits, closed, closed_sits, first_sits, gathered, gathered_sits, open_sits, sent_on, sent_sits, sits_open}
 
 -- ---- one more turn at the end
-
-acts_more : (turns : List Turn) (t : Turn) → acts_in (turns ++ t ∷ []) ≡ acts_in turns ++ t.acts
-acts_more [] t = append-nil t.acts
-acts_more (u ∷ turns) t = ap (λ (x : List Act). u.acts ++ x) (acts_more turns t) ∙ sym (append_assoc u.acts (acts_in turns) t.acts)
-
-moments_more : (turns : List Turn) (t : Turn) → moments_in (turns ++ t ∷ []) ≡ moments_in turns ++ t.moments
-moments_more [] t = append-nil t.moments
-moments_more (u ∷ turns) t = ap (λ (x : List ℕ). u.moments ++ x) (moments_more turns t) ∙ sym (append_assoc u.moments (moments_in turns) t.moments)
 
 own_more : (i : ℕ) (turns : List Turn) (t : Turn) → own_turns i (turns ++ t ∷ []) ≡ own_turns i turns ++ cond (nat_eq t.which i) (t ∷ []) []
 own_more i turns t = filter-append (λ (u : Turn). nat_eq u.which i) turns (t ∷ [])
@@ -93,6 +89,11 @@ pub heard_at : (turns : List Turn) (i p : ℕ) (d : Sitting) (xs : List Sitting)
 heard_at turns i p d [] lt is h = absurd (omega (arith, lt))
 heard_at turns i zero d (x ∷ xs) lt is h = (open_sits x (own_turns i turns) is h.0).marked
 heard_at turns i (suc p) d (x ∷ xs) lt is h = heard_at turns (suc i) p d xs (omega (arith, lt)) is h.1
+
+pub unlost_at : (turns : List Turn) (i p : ℕ) (d : Sitting) (xs : List Sitting) → p < length xs → (get_or xs p d).end ≡ None → AllSit turns i xs → (get_or xs p d).lost ≡ None
+unlost_at turns i p d [] lt is h = absurd (omega (arith, lt))
+unlost_at turns i zero d (x ∷ xs) lt is h = (open_sits x (own_turns i turns) is h.0).unlost
+unlost_at turns i (suc p) d (x ∷ xs) lt is h = unlost_at turns (suc i) p d xs (omega (arith, lt)) is h.1
 
 -- If a property holds for the old item and for all items after a change, it holds for all items before the
 -- change and for the new item.
@@ -151,6 +152,61 @@ held_least : {K : Type 0} (k : Ghosts K) (gave_up : Bool) (a b : K) → HoldsUp 
 held_least k true a b h = h
 held_least k false a b h = omega (arith, h.0)
 
+-- one of the connections gave up this request at this moment
+abbrev pub AreLost : List Sitting → Request → ℕ → Type 0
+AreLost [] r now = ⊥
+AreLost (x ∷ xs) r now = IsLost x.lost r now ⊎ AreLost xs r now
+
+lost_set : (xs : List Sitting) (p : ℕ) (d new : Sitting) (r : Request) (now : ℕ) → (IsLost (get_or xs p d).lost r now → IsLost new.lost r now) → AreLost xs r now → AreLost (set xs p new) r now
+lost_set [] p d new r now so h = absurd h
+lost_set (x ∷ xs) zero d new r now so (inl h) = inl (so h)
+lost_set (x ∷ xs) zero d new r now so (inr h) = inr h
+lost_set (x ∷ xs) (suc p) d new r now so (inl h) = inl h
+lost_set (x ∷ xs) (suc p) d new r now so (inr h) = inr (lost_set xs p d new r now so h)
+
+lost_here : (xs : List Sitting) (p : ℕ) (new : Sitting) (r : Request) (now : ℕ) → p < length xs → IsLost new.lost r now → AreLost (set xs p new) r now
+lost_here [] p new r now lt h = absurd (omega (arith, lt))
+lost_here (x ∷ xs) zero new r now lt h = inl h
+lost_here (x ∷ xs) (suc p) new r now lt h = inr (lost_here xs p new r now (omega (arith, lt)) h)
+
+lost_before : (xs : List Sitting) (x : Sitting) (r : Request) (now : ℕ) → AreLost xs r now → AreLost (xs ++ x ∷ []) r now
+lost_before [] x r now h = absurd h
+lost_before (y ∷ xs) x r now (inl h) = inl h
+lost_before (y ∷ xs) x r now (inr h) = inr (lost_before xs x r now h)
+
+-- the request that a session gave up in its first step
+pub lost_of : {n : ℕ} {stream : List ℕ} {s : State} {moments out : List ℕ} {e : SessionEnd} {gave_up : Bool} {after : State} → Session n stream s moments out e gave_up after → Option Lost
+lost_of (session.gave_up_at n stream rest s r now next readable) = Some (record { request = r; moment = now })
+lost_of (session.write_failed_giving_up_at n stream rest s r now front next readable begins) = Some (record { request = r; moment = now })
+lost_of _ = None
+
+is_lost : {n : ℕ} {stream : List ℕ} {s : State} {moments out : List ℕ} {e : SessionEnd} {gave_up : Bool} {after : State}
+    → (x : Session n stream s moments out e gave_up after) → EndsAtOnce x → (r : Request) (now : ℕ) → GaveUpAt x r now → IsLost (lost_of x) r now
+unfolding lost_of
+is_lost (session.served n stream rest s mid after r now moments text out e gave_up next answers more) once q told h = absurd once
+is_lost (session.gave_up_at n stream rest s r now next readable) once q told h = h
+is_lost (session.write_failed_giving_up_at n stream rest s r now front next readable begins) once q told h = h
+is_lost _ once q told h = absurd h
+
+-- it was given up in a turn
+lost_in : {n : ℕ} {stream : List ℕ} {s : State} {moments out : List ℕ} {e : SessionEnd} {gave_up : Bool} {after : State}
+    → (x : Session n stream s moments out e gave_up after) (t : Turn) → t.moments ≡ moments
+    → (r : Request) (now : ℕ) → IsLost (lost_of x) r now → IsLostIn stream gave_up t r now
+unfolding lost_of
+lost_in (session.gave_up_at n stream rest s r now next readable) t told q at h = record {
+  marked = refl;
+  more = rest;
+  message = subst (λ (z : Request). Next stream (frame.Message z) rest) (sym h.0) next;
+  told = told ∙ ap (λ (m : ℕ). m ∷ []) (sym h.1);
+}
+lost_in (session.write_failed_giving_up_at n stream rest s r now front next readable begins) t told q at h = record {
+  marked = refl;
+  more = rest;
+  message = subst (λ (z : Request). Next stream (frame.Message z) rest) (sym h.0) next;
+  told = told ∙ ap (λ (m : ℕ). m ∷ []) (sym h.1);
+}
+lost_in _ t told q at h = absurd h
+
 pub record SoFar {C K : Type 0} (gives : C → ℕ → C → Type 0) (k : Ghosts K) (sittings : List Sitting) (whose : List ℕ) (clock clock' : C) (keeper keeper' : K) (s mid : State) : Type 0 where
   pub turns : List Turn
   pub order : Acts s (acts_in turns) mid
@@ -163,7 +219,7 @@ pub record SoFar {C K : Type 0} (gives : C → ℕ → C → Type 0) (k : Ghosts
   pub rose : AllByRecursion (RoseAt (k.faults keeper) (k.faults keeper')) sittings
   pub held : AllByRecursion NotGivenUp sittings → HoldsUp k false keeper keeper'
   pub lasts : AllByRecursion LastsAt sittings → LastsThrough k keeper keeper' s mid
-  pub survives : Survives k keeper keeper' s mid
+  pub survives : Survives k keeper keeper' (AreLost sittings) s mid
 
 same_length : (n m : ℕ) (turns : List Turn) → n ≡ m → AllByRecursion (λ t. t.which < n) turns → AllByRecursion (λ t. t.which < m) turns
 same_length n m [] e h = tt
@@ -193,11 +249,12 @@ module _ {C K : Type 0} (gives : C → ℕ → C → Type 0) (k : Ghosts K) wher
     pub one_moment : length moments ≤ 1
     pub took : took_of new ≡ took_of x + 1
     pub marked : x.gave_up ≡ false
+    pub kept : (r : Request) (now : ℕ) → IsLost x.lost r now → IsLost new.lost r now
     pub never_less : k.faults keeper ≤ k.faults keeper'
     pub rose : RoseAt (k.faults keeper) (k.faults keeper') new
     pub held : new.gave_up ≡ false → HoldsUp k false keeper keeper'
     pub lasts : LastsAt new → LastsThrough k keeper keeper' mid after
-    pub survives : Survives k keeper keeper' mid after
+    pub survives : Survives k keeper keeper' (IsLost new.lost) mid after
 
   holds_both : (a b c : K) → HoldsUp k false a b → HoldsUp k false b c → HoldsUp k false a c
   holds_both a b c x y = (y.0 ∙ x.0, λ was. y.1 (x.1 was))
@@ -220,7 +277,7 @@ module _ {C K : Type 0} (gives : C → ℕ → C → Type 0) (k : Ghosts K) wher
             xs p new f.rose (λ is at_end. rose_later (k.faults keeper) (k.faults keeper') (k.faults keeper'') f.never_less (t.rose is at_end));
         held = λ none. let both = all_unset NotGivenUp xs p d new lt t.marked none in holds_both keeper keeper' keeper'' (f.held both.0) (t.held both.1);
         lasts = λ all. let both = all_unset LastsAt xs p d new lt (inl t.marked) all in then_through (f.lasts both.0) (t.lasts both.1);
-        survives = then_survives f.survives t.survives;
+        survives = then_survives (survives_more (λ r now. lost_set xs p d new r now (t.kept r now)) f.survives) (survives_more (λ r now. lost_here xs p new r now lt) t.survives);
       }
 
   -- no connection came yet
@@ -244,6 +301,9 @@ module _ {C K : Type 0} (gives : C → ℕ → C → Type 0) (k : Ghosts K) wher
     -- ---- one connection has a turn
 
     module _ (p : ℕ) (d x : Sitting) (lt : p < length xs) (at : get_or xs p d ≡ x) (is_open : x.end ≡ None) where
+      unlost : x.lost ≡ None
+      unlost = subst (λ (y : Sitting). y.lost ≡ None) at (unlost_at f.turns 0 p d xs lt (subst (λ (y : Sitting). y.end ≡ None) (sym at) is_open) f.sit)
+
       unmarked : x.gave_up ≡ false
       unmarked = subst (λ (y : Sitting). y.gave_up ≡ false) at (heard_at f.turns 0 p d xs lt (subst (λ (y : Sitting). y.end ≡ None) (sym at) is_open) f.sit)
 
@@ -265,6 +325,7 @@ module _ {C K : Type 0} (gives : C → ℕ → C → Type 0) (k : Ghosts K) wher
             moves = λ t told acted before h. sits_open (answered x left reader written) (before ++ t ∷ []) is_open
                 (answered_sits x left reader written clock' clock'' keeper' keeper'' mid after g t told acted before few (open_sits x before is_open h));
             marked = unmarked;
+            kept = λ r now h. h;
             never_less = held_least k false keeper' keeper'' g.held;
             rose = unmarked_rose (k.faults keeper') (k.faults keeper'') (answered x left reader written) unmarked;
             held = λ _. g.held;
@@ -274,13 +335,13 @@ module _ {C K : Type 0} (gives : C → ℕ → C → Type 0) (k : Ghosts K) wher
 
       -- the connection ends
       pub closed_more : (left reader written : Option (List ℕ)) (clock'' : C) (keeper'' : K) (after : State) (n : ℕ) (e : SessionEnd) → n + x.served ≡ most_messages
-          → (v : Serves n gives x.left reader x.written written clock' clock'' k keeper' keeper'' mid after e) → EndsAtOnce v.session
-          → SoFar gives k (set xs p (closed x left reader written e v.gave_up)) (whose ++ p ∷ []) clock clock'' keeper keeper'' s after
-      closed_more left reader written clock'' keeper'' after n e sum v once =
+          → (v : Serves n gives x.left reader x.written written clock' clock'' k keeper' keeper'' mid after e) → EndsAtOnce v.session → (v.gave_up ≡ true → HasBegunMessage v.stream)
+          → SoFar gives k (set xs p (closed x left reader written e v.gave_up (lost_of v.session))) (whose ++ p ∷ []) clock clock'' keeper keeper'' s after
+      closed_more left reader written clock'' keeper'' after n e sum v once begun =
           let y = last_acts n v.stream mid v.moments v.answers e v.gave_up after v.session once in
           let speaks = speaks_of n v.stream mid v.moments v.answers e v.gave_up y.acts after y.are in
           let none = none_whole n v.stream mid v.moments v.answers e v.gave_up y.acts after y.are y.none in
-          let new = closed x left reader written e v.gave_up in
+          let new = closed x left reader written e v.gave_up (lost_of v.session) in
           moves_more xs p d new clock clock' clock'' keeper keeper' keeper'' s mid after lt f
           (subst (λ (z : Sitting). Moves z new clock' clock'' keeper' keeper'' mid after) (sym at) (record {
             acts = y.acts;
@@ -292,16 +353,18 @@ module _ {C K : Type 0} (gives : C → ℕ → C → Type 0) (k : Ghosts K) wher
             by_rules = y.by_rules;
             moves = λ t told acted before h.
                 let last = last_turn n v.stream t y.acts v.moments v.answers e v.gave_up told acted speaks none in
-                closed_sits x left reader written e v.gave_up n v.stream v.answers t before sum v.read v.written last.0 last.1 (open_sits x before is_open h);
+                closed_sits x left reader written e v.gave_up (lost_of v.session) n v.stream v.answers t before sum v.read v.written last.0 last.1 (lost_in v.session t told)
+                (λ given. acted ∙ none_acted n v.stream mid v.moments v.answers e v.gave_up after v.session once given) begun (open_sits x before is_open h);
             marked = unmarked;
+            kept = λ r now h. absurd (subst (λ (o : Option Lost). IsLost o r now) unlost h);
             never_less = held_least k v.gave_up keeper' keeper'' v.held.0;
             rose = λ is at_end. v.held.1 is (some_end e ReadFault at_end);
             held = λ is. subst (λ b. HoldsUp k b keeper' keeper'') is v.held.0;
             lasts = λ at_end. v.lasts (ends_so at_end);
-            survives = v.survives;
+            survives = survives_more (is_lost v.session once) v.survives;
           }))
         where
-          ends_so : LastsAt (closed x left reader written e v.gave_up) → (v.gave_up ≡ false) ⊎ (e ≡ ReadFault)
+          ends_so : LastsAt (closed x left reader written e v.gave_up (lost_of v.session)) → (v.gave_up ≡ false) ⊎ (e ≡ ReadFault)
           ends_so (inl is) = inl is
           ends_so (inr is) = inr (some_end e ReadFault is)
 
@@ -320,7 +383,7 @@ module _ {C K : Type 0} (gives : C → ℕ → C → Type 0) (k : Ghosts K) wher
         rose = all_set (RoseAt (k.faults keeper) (k.faults keeper')) (RoseAt (k.faults keeper) (k.faults keeper')) (λ y r. r) xs p (gathered x left reader) f.rose (unmarked_rose (k.faults keeper) (k.faults keeper') (gathered x left reader) unmarked);
         held = λ none. f.held (all_unset NotGivenUp xs p d (gathered x left reader) lt (subst NotGivenUp (sym at) unmarked) none).0;
         lasts = λ all. f.lasts (all_unset LastsAt xs p d (gathered x left reader) lt (subst LastsAt (sym at) (inl unmarked)) all).0;
-        survives = f.survives;
+        survives = survives_more (λ r now. lost_set xs p d (gathered x left reader) r now (subst (λ (y : Sitting). IsLost y.lost r now → IsLost x.lost r now) (sym at) (λ h. h))) f.survives;
       }
 
     -- waiting bytes of one of the connections are sent
@@ -340,7 +403,7 @@ module _ {C K : Type 0} (gives : C → ℕ → C → Type 0) (k : Ghosts K) wher
           rose = all_set (RoseAt (k.faults keeper) (k.faults keeper')) (RoseAt (k.faults keeper) (k.faults keeper')) (λ z r. r) xs p y f.rose (all_get (RoseAt (k.faults keeper) (k.faults keeper')) xs p d lt f.rose);
           held = λ none. f.held (all_as NotGivenUp xs p d y lt (λ h. h) none);
           lasts = λ all. f.lasts (all_as LastsAt xs p d y lt (λ h. h) all);
-          survives = f.survives;
+          survives = survives_more (λ r now. lost_set xs p d y r now (λ h. h)) f.survives;
         }
 
     -- ---- one more connection
@@ -380,7 +443,7 @@ module _ {C K : Type 0} (gives : C → ℕ → C → Type 0) (k : Ghosts K) wher
       rose = all_last_one (RoseAt (k.faults keeper) (k.faults keeper')) xs x f.rose (unmarked_rose (k.faults keeper) (k.faults keeper') x new.marked);
       held = λ none. f.held (all_before NotGivenUp xs x none);
       lasts = λ all. f.lasts (all_before LastsAt xs x all);
-      survives = f.survives;
+      survives = survives_more (lost_before xs x) f.survives;
     }
 
 -- ---- the end
@@ -433,6 +496,8 @@ record HasThread (x : Sitting) (own : List Turn) : Type 0 where
   pub thread : Thread
   pub is : IsThreadOf x thread
   pub speaks : SpeaksInTurns most_messages thread.stream own thread.answers thread.end thread.gave_up
+  pub lost : (r : Request) (now : ℕ) → IsLost x.lost r now → HasGivenUp thread.stream thread.gave_up (acts_in own) (moments_in own) r now
+  pub begun : GaveUpWithin thread.stream thread.gave_up (acts_in own)
 
 speaks_marked : (n : ℕ) (stream : List ℕ) (own : List Turn) (out : List ℕ) (e e' : Option SessionEnd) (g g' : Bool) → e ≡ e' → g ≡ g' → SpeaksInTurns n stream own out e g → SpeaksInTurns n stream own out e' g'
 speaks_marked n stream own out e e' g g' ee eg h = subst (λ z. SpeaksInTurns n stream own out z g') ee (subst (SpeaksInTurns n stream own out e) eg h)
@@ -452,6 +517,8 @@ thread_at x own None is h =
           (subst (λ z. SpeaksInTurns most_messages z own h.text None false) (append-nil h.front)
           (subst (λ z. SpeaksInTurns most_messages (h.front ++ []) z h.text None false) (append-nil own)
           (subst (λ z. SpeaksInTurns most_messages (h.front ++ []) (own ++ []) z None false) (append-nil h.text) all)));
+      lost = λ r now is_lost. absurd (subst (λ (o : Option Lost). IsLost o r now) h.unlost is_lost);
+      begun = λ given. let marked = h.marked in absurd (cc (marked, given));
     }
 thread_at x own (Some e) is h = record {
   thread = record { stream = h.stream; answers = h.answers; end = x.end; gave_up = x.gave_up };
@@ -462,17 +529,28 @@ thread_at x own (Some e) is h = record {
     answers = h.written_to;
   };
   speaks = speaks_marked most_messages h.stream own h.answers (Some e) x.end x.gave_up x.gave_up (sym is) refl h.speaks;
+  lost = h.lost;
+  begun = h.begun;
 }
+
+-- the same over all turns
+own_lost : (i : ℕ) (turns : List Turn) (c : Thread) (r : Request) (now : ℕ) → HasGivenUp c.stream c.gave_up (acts_in (own_turns i turns)) (moments_in (own_turns i turns)) r now
+    → HasGivenUp c.stream c.gave_up (own_acts i turns) (own_moments i turns) r now
+own_lost i turns c r now h =
+    let same = own_are i turns in
+    subst (λ l. HasGivenUp c.stream c.gave_up l (own_moments i turns) r now) same.0 (subst (λ l. HasGivenUp c.stream c.gave_up (acts_in (own_turns i turns)) l r now) same.1 h)
 
 record HasThreads (turns : List Turn) (i : ℕ) (xs : List Sitting) : Type 0 where
   pub threads : List Thread
   pub are : AreThreadsOf xs threads
   pub by_turns : SpeakInTurns turns i threads
   pub spoken : AreSpoken turns i threads
+  pub lost : (r : Request) (now : ℕ) → AreLost xs r now → HaveGivenUp turns i threads r now
+  pub begun : GaveUpWithinMessages turns i threads
   pub many : length threads ≡ length xs
 
 all_threads : (turns : List Turn) (i : ℕ) (xs : List Sitting) → AllSit turns i xs → HasThreads turns i xs
-all_threads turns i [] h = record { threads = []; are = tt; by_turns = tt; spoken = tt; many = refl }
+all_threads turns i [] h = record { threads = []; are = tt; by_turns = tt; spoken = tt; lost = λ r now none. none; begun = tt; many = refl }
 all_threads turns i (x ∷ xs) h =
     let c = thread_at x (own_turns i turns) x.end refl h.0 in
     let cs = all_threads turns (suc i) xs h.1 in
@@ -481,8 +559,16 @@ all_threads turns i (x ∷ xs) h =
       are = (c.is, cs.are);
       by_turns = (c.speaks, cs.by_turns);
       spoken = (own_speaks i turns c.thread c.speaks, cs.spoken);
+      lost = λ r now.
+          either (IsLost x.lost r now) (AreLost xs r now) (HasGivenUp c.thread.stream c.thread.gave_up (own_acts i turns) (own_moments i turns) r now) (HaveGivenUp turns (suc i) cs.threads r now)
+          (λ is. own_lost i turns c.thread r now (c.lost r now is)) (cs.lost r now);
+      begun = (subst (GaveUpWithin c.thread.stream c.thread.gave_up) (own_are i turns).0 c.begun, cs.begun);
       many = ap suc cs.many;
     }
+  where
+    either : (A B C D : Type 0) → (A → C) → (B → D) → A ⊎ B → C ⊎ D
+    either A B C D f g (inl a) = inl (f a)
+    either A B C D f g (inr b) = inr (g b)
 
 -- The connections were served in turns, by one order of all their messages.
 pub record Woven {C : Type 0} (gives : C → ℕ → C → Type 0) (xs : List Sitting) (whose : List ℕ) (clock clock' : C) (s mid : State) : Type 0 where
@@ -494,6 +580,8 @@ pub record Woven {C : Type 0} (gives : C → ℕ → C → Type 0) (xs : List Si
   pub run : Interleaved s threads moments mid
   pub by_turns : SpeakInTurns run.turns 0 threads
   pub counts : Counts run.turns xs whose
+  pub lost : (r : Request) (now : ℕ) → AreLost xs r now → HaveGivenUp run.turns 0 threads r now
+  pub begun : GaveUpWithinMessages run.turns 0 threads
 
 pub finishes : {C K : Type 0} {whose : List ℕ} (gives : C → ℕ → C → Type 0) (k : Ghosts K) (xs : List Sitting) (clock clock' : C) (keeper keeper' : K) (s mid : State)
     → SoFar gives k xs whose clock clock' keeper keeper' s mid → Woven gives xs whose clock clock' s mid
@@ -508,6 +596,8 @@ finishes gives k xs clock clock' keeper keeper' s mid f =
       run = record { turns = f.turns; order = f.order; told = refl; tied = f.tied; within = same_length (length xs) (length x.threads) f.turns (sym x.many) f.within; each = x.spoken };
       by_turns = x.by_turns;
       counts = f.counts;
+      lost = x.lost;
+      begun = x.begun;
     }
 
 -- ---- properties of all threads are properties of all connections

@@ -11,7 +11,7 @@ use Rattle.office.specs.declared.connections.session.SessionEnd.TheVariants.{End
 use Rattle.office.specs.Crashes.{LastsThrough, Survives}
 use Rattle.office.specs.Premise.{HoldsUp}
 use Rattle.office.specs.Repeats.{ActsOnce}
-use Rattle.office.specs.Sessions.{Session, Connection, Run}
+use Rattle.office.specs.Sessions.{GaveUpAt, GaveUpIn, Session, Connection, Run}
 use Rattle.office.specs.WithoutTryAgain.{RunsWithout}
 
 -- the clock told these moments in order
@@ -46,7 +46,7 @@ HoldsUpTo k gave_up e old new = HoldsUp k gave_up old new × (gave_up ≡ true �
 
 -- What was read, told and written, and that this is a session of up to n messages in which the keeper held
 -- up. If nothing was given up, or if a read failed, the state after survives a crash. In any case a crash
--- leaves that state, or that state with one more request.
+-- leaves that state, or that state with the request that the session gave up.
 pub record Serves {C K : Type 0} (n : ℕ) (gives : C → ℕ → C → Type 0) (input input' output output' : Option (List ℕ)) (clock clock' : C)
     (k : Ghosts K) (keeper keeper' : K) (s after : State) (e : SessionEnd) : Type 0 where
   pub stream : List ℕ
@@ -58,8 +58,8 @@ pub record Serves {C K : Type 0} (n : ℕ) (gives : C → ℕ → C → Type 0) 
   pub written : Appends output output' answers
   pub held : HoldsUpTo k gave_up e keeper keeper'
   pub lasts : (gave_up ≡ false) ⊎ (e ≡ ReadFault) → LastsThrough k keeper keeper' s after
-  pub survives : Survives k keeper keeper' s after
   pub session : Session n stream s moments answers e gave_up after
+  pub survives : Survives k keeper keeper' (GaveUpAt session) s after
 
 -- If a fault of the reader or the writer was counted, the end tells it, and no other end counts as a fault.
 pub record TellsFaults {R W : Type 0} (e : SessionEnd) (reader reader' : Counted R) (writer writer' : Counted W) : Type 0 where
@@ -89,6 +89,11 @@ NoneGaveUp cs = AllByRecursion (λ c. c.gave_up ≡ false) cs
 abbrev pub StaysOpen : {K : Type 0} → Ghosts K → List Connection → K → K → State → Type 0
 StaysOpen k cs old new after = NoneGaveUp cs → k.is_open old → k.is_open new × ((t : State) → k.means new t → t ≡ after)
 
+-- if nothing was given up except at a failed read, the state after survives a crash
+abbrev pub LastsOverAll : {K : Type 0} → Ghosts K → List Connection → K → K → State → State → Type 0
+LastsOverAll k cs keeper keeper' s after =
+    AllByRecursion (λ c. (c.gave_up ≡ false) ⊎ (c.end ≡ ReadFault)) cs → LastsThrough k keeper keeper' s after
+
 -- the connection ended by a failed read or write
 abbrev pub is_fault : SessionEnd → Bool
 is_fault ReadFault = true
@@ -109,8 +114,9 @@ pub record Runs {C R W K : Type 0} (gives : C → ℕ → C → Type 0) (remaini
   pub served : AreServed remaining contents old new connections
   pub held : HoldsUpOver k connections keeper keeper'
   pub opened : StaysOpen k connections keeper keeper' after
-  pub survives : Survives k keeper keeper' s after
   pub run : Run s connections moments after
+  pub lasts : LastsOverAll k connections keeper keeper' s after
+  pub survives : Survives k keeper keeper' (GaveUpIn s connections moments after run) s after
   pub without : RunsWithout s connections moments after
   pub repeats : ActsOnce s connections moments after
   pub faulty : faults ≡ count_by (λ c. is_fault c.end) connections

@@ -45,18 +45,20 @@ pub record IsAsked (s : State) (r : Request) (now : ℕ) (after : State) : Type 
   pub reply : StepReply
   pub accepts : AcceptsRequest s r now reply after
 
--- the state after one more request, at some moment
-pub record IsOneMore (s after : State) : Type 0 where
+-- The state after one more request, one that was given up at this moment. given_up: the requests that were
+-- given up, each with its moment.
+pub record IsOneMore (given_up : Request → ℕ → Type 0) (s after : State) : Type 0 where
   pub request : Request
   pub moment : ℕ
+  pub was_given_up : given_up request moment
   pub asked : IsAsked s request moment after
 
--- The same whatever was given up. Either a crash leaves the state after, or that state with one more request,
--- and nothing else. Or nothing was changed, and a crash leaves nothing new except the current state, and that
--- state with one more request.
-pub data Survives {K : Type 0} (k : Ghosts K) (old new : K) (s after : State) : Type 0 where
-  some_change : ((t : State) → k.leaves new t → (t ≡ after) ⊎ IsOneMore after t) → k.leaves_whole new → Survives k old new s after
-  no_change : after ≡ s → AddsAsked k old new s (IsOneMore s) → Survives k old new s after
+-- The same whatever was given up. Either a crash leaves the state after, or that state with one more request
+-- that was given up, and nothing else. Or nothing was changed, and a crash leaves nothing new except the
+-- current state, and that state with one more request that was given up.
+pub data Survives {K : Type 0} (k : Ghosts K) (old new : K) (given_up : Request → ℕ → Type 0) (s after : State) : Type 0 where
+  some_change : ((t : State) → k.leaves new t → (t ≡ after) ⊎ IsOneMore given_up after t) → k.leaves_whole new → Survives k old new given_up s after
+  no_change : after ≡ s → AddsAsked k old new s (IsOneMore given_up s) → Survives k old new given_up s after
 
 -- the state after the command that the line stands for
 pub record IsToldBy (s : State) (line : List ℕ) (after : State) : Type 0 where

@@ -8,7 +8,7 @@ use Rattle.office.specs.declared.connections.seat.Seat.{Seat}
 use Rattle.office.specs.declared.connections.session.SessionEnd.{SessionEnd}
 use Rattle.office.specs.Connections.{TellsMoments, is_fault}
 use Rattle.office.specs.Crashes.{Survives}
-use Rattle.office.specs.Interleaved.{Interleaved, SpeakInTurns, Thread, acts_in}
+use Rattle.office.specs.Interleaved.{GaveUpWithinMessages, HaveGivenUp, Interleaved, SpeakInTurns, Thread, acts_in}
 use Rattle.office.specs.Repeats.{RepeatsOnce}
 use Rattle.office.specs.Seats.{AreThreads, Gathers, HaveTurns, IsNew, LastsOver, Sends, StaysSo, TakesTurn, TellsOneMoment, TellsTurn, turns_of}
 
@@ -67,6 +67,10 @@ abbrev pub whose_turn : (ℕ → ℕ) → Option Due → List ℕ
 whose_turn numbers None = []
 whose_turn numbers (Some due) = numbers due.index ∷ []
 
+-- each connection in the slots is one of the first n that came
+abbrev pub AreAmong : {X : Type 0} → (ℕ → ℕ) → ℕ → List (Option X) → Type 0
+AreAmong {X} numbers n slots = (p : ℕ) (x : X) → slot_at slots p ≡ Some x → numbers p < n
+
 -- The same changes around a crowd, and the turn that is then due. met: the connections that came and went so
 -- far; gave: the numbers of the slots, and the turns given so far.
 abbrev pub ChangesBy : {G R W : Type 0} → (R → Option (List ℕ)) → (W → Option (List ℕ)) → (G → List (Seat R W) → List (Seat R W) → Type 0) → (G → (ℕ → ℕ) → List ℕ → Type 0)
@@ -74,7 +78,7 @@ abbrev pub ChangesBy : {G R W : Type 0} → (R → Option (List ℕ)) → (W →
 ChangesBy {R = R} {W = W} remaining contents met gave before after old new due =
     (came gone : List (Seat R W)) → met before came gone
     → (more went : List (Seat R W)) × met after (came ++ more) (gone ++ went) × (changes : Changes remaining contents old new more went)
-    × ((numbers : ℕ → ℕ) (given : List ℕ) → gave before numbers given
+    × ((numbers : ℕ → ℕ) (given : List ℕ) → AreAmong numbers (length came) old → gave before numbers given
     → gave after (numbers_after changes (length came) numbers) (given ++ whose_turn (numbers_after changes (length came) numbers) due))
 
 -- Either bytes of the open connection in slot p were read ahead or put back in this way, nothing else was
@@ -142,8 +146,10 @@ pub record ServesCrowd {C K R W : Type 0} (gives : C → ℕ → C → Type 0) (
   -- Each turn of a connection answers exactly one message in full, except the turn in which it ends. That one
   -- is its last and answers none in full.
   pub by_turns : SpeakInTurns run.turns 0 threads
+  -- A connection gave up only within a message that had begun: never before bytes of it were read.
+  pub begun : GaveUpWithinMessages run.turns 0 threads
   pub repeats : RepeatsOnce (acts_in run.turns)
   pub stays : StaysSo k threads keeper keeper' after
   pub lasts : LastsOver k threads keeper keeper' s after
-  pub survives : Survives k keeper keeper' s after
+  pub survives : Survives k keeper keeper' (HaveGivenUp run.turns 0 threads) s after
   pub faulty : faults ≡ count_by (λ c. is_fault_end c.end) threads

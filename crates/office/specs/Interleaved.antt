@@ -8,7 +8,7 @@ use Rattle.wire.specs.Framing.{Next}
 use Rattle.wire.specs.Framing as frame
 use Rattle.office.specs.Readable.{IsReadable}
 use Rattle.office.specs.Repeats.{Act, Acts, text_of}
-use Rattle.office.specs.Sessions.{Connection, Session, most_messages}
+use Rattle.office.specs.Sessions.{Connection, HasBegunMessage, Session, most_messages}
 use Rattle.office.specs.WithoutTryAgain.{IsLastRefusal}
 use Rattle.office.specs.declared.connections.session.SessionEnd.{SessionEnd}
 use Rattle.office.specs.declared.connections.session.SessionEnd.TheVariants.{WriteFault}
@@ -107,6 +107,37 @@ abbrev pub AreSpoken : List Turn → ℕ → List Thread → Type 0
 AreSpoken turns i [] = ⊤
 AreSpoken turns i (c ∷ cs) =
     Speaks most_messages c.stream (own_acts i turns) (own_moments i turns) c.answers c.end c.gave_up × AreSpoken turns (suc i) cs
+
+-- rest follows on the stream behind the messages of these acts
+abbrev pub IsBehind : List ℕ → List Act → List ℕ → Type 0
+IsBehind stream [] rest = rest ≡ stream
+IsBehind stream (a ∷ acts) rest = (more : List ℕ) × Next stream (frame.Message a.request) more × IsBehind more acts rest
+
+-- A connection gave up this request at this moment: its message was the first behind those of the acts, and its
+-- moment was told after theirs. stream, gave_up, acts and moments are those of the connection.
+pub record HasGivenUp (stream : List ℕ) (gave_up : Bool) (acts : List Act) (moments : List ℕ) (r : Request) (now : ℕ) : Type 0 where
+  pub marked : gave_up ≡ true
+  pub rest : List ℕ
+  pub more : List ℕ
+  pub behind : IsBehind stream acts rest
+  pub message : Next rest (frame.Message r) more
+  pub told : moments ≡ map (λ a. a.now) acts ++ now ∷ []
+
+-- one of the connections, from number i on, gave up this request at this moment
+abbrev pub HaveGivenUp : List Turn → ℕ → List Thread → Request → ℕ → Type 0
+HaveGivenUp turns i [] r now = ⊥
+HaveGivenUp turns i (c ∷ cs) r now =
+    HasGivenUp c.stream c.gave_up (own_acts i turns) (own_moments i turns) r now ⊎ HaveGivenUp turns (suc i) cs r now
+
+-- If the connection gave up, it was within a message that had begun, whole or not: the first behind those of
+-- the acts.
+abbrev pub GaveUpWithin : List ℕ → Bool → List Act → Type 0
+GaveUpWithin stream gave_up acts = gave_up ≡ true → (rest : List ℕ) × IsBehind stream acts rest × HasBegunMessage rest
+
+-- the same for each connection, from number i on
+abbrev pub GaveUpWithinMessages : List Turn → ℕ → List Thread → Type 0
+GaveUpWithinMessages turns i [] = ⊤
+GaveUpWithinMessages turns i (c ∷ cs) = GaveUpWithin c.stream c.gave_up (own_acts i turns) × GaveUpWithinMessages turns (suc i) cs
 
 -- There is one order of all messages. By the rules of the machine it leads from the state to the state after,
 -- and each connection is what its own messages make of it.

@@ -7,9 +7,9 @@ use Rattle.boxes.specs.State.{State}
 use Rattle.keeper.specs.declared.keep.Keeper.{Ghosts}
 use Rattle.office.specs.declared.connections.session.SessionEnd.{SessionEnd}
 use Rattle.office.specs.declared.connections.session.SessionEnd.TheVariants.{ReadFault}
-use Rattle.office.specs.Connections.{IsStream, StaysOpen, is_fault}
+use Rattle.office.specs.Connections.{IsStream, LastsOverAll, StaysOpen, is_fault}
 use Rattle.office.specs.Crashes.{Survives}
-use Rattle.office.specs.Sessions.{Connection, Run, Session, most_messages}
+use Rattle.office.specs.Sessions.{Connection, GaveUpIn, Run, Session, most_messages}
 
 -- what was read and written is a session from the state in which each message was handled at the moment
 pub record Replays (input input' output output' : Option (List ℕ)) (s : State) (moment : ℕ) (e : SessionEnd) : Type 0 where
@@ -54,12 +54,13 @@ pub record InTurn (output output' : Option (List ℕ)) (s after : State) (moment
   pub many : length connections ≡ n
   pub faulty : faults ≡ count_by (λ c. is_fault c.end) connections
 
--- The same over a keeper. If no connection gave up, it is open if it was before. survives says what a crash
--- leaves in any case.
+-- The same over a keeper. If no connection gave up, it is open if it was before. lasts and survives say what a
+-- crash leaves: if nothing was given up except at a failed read, and in any case.
 pub record InTurnOver {K : Type 0} (k : Ghosts K) (keeper keeper' : K) (output output' : Option (List ℕ)) (s after : State) (moment n faults : ℕ) : Type 0 where
   pub turn : InTurn output output' s after moment n faults
   pub opened : StaysOpen k turn.connections keeper keeper' after
-  pub survives : Survives k keeper keeper' s after
+  pub lasts : LastsOverAll k turn.connections keeper keeper' s after
+  pub survives : Survives k keeper keeper' (GaveUpIn s turn.connections turn.moments after turn.run) s after
 
 -- Either all streams were served in order, and the result counts the faults, or those before the stream that
 -- it names. Served n faults: n connections were served in order, and faults of them ended by a fault.

@@ -12,7 +12,7 @@ use Rattle.office.specs.declared.connections.session.SessionEnd.TheVariants.{Rea
 use Rattle.office.specs.Connections.{IsStream, Serves}
 use Rattle.office.specs.Crashes.{LastsThrough}
 use Rattle.office.specs.Interleaved.{Thread, Turn, turns_by}
-use Rattle.office.specs.Sessions.{EndsAtOnce, most_messages}
+use Rattle.office.specs.Sessions.{EndsAtOnce, HasBegunMessage, most_messages}
 use Rattle.office.specs.Stepping.{Goes, TellsStep}
 
 -- what is left of its stream: the bytes that its feed read and did not take, followed by those that its
@@ -54,10 +54,10 @@ pub data TakesTurn {C K R W : Type 0} (gives : C → ℕ → C → Type 0) (rema
       → Goes gives (left_of remaining old) (left_of remaining new) (contents old.writer.inner) (contents new.writer.inner) clock clock' k keeper keeper' s after
       → TakesTurn gives remaining contents old new clock clock' k keeper keeper' s after
   -- It ended like a session of n messages, where n is the most that were still to come. It did not go on
-  -- after a message.
+  -- after a message. If it gave up, it was within a message that had begun, so bytes of it were read.
   ended : (n : ℕ) (e : SessionEnd) → old.end ≡ None → new.end ≡ Some e → new.served ≡ old.served → n + old.served ≡ most_messages
       → (serves : Serves n gives (left_of remaining old) (remaining new.reader.inner) (contents old.writer.inner) (contents new.writer.inner) clock clock' k keeper keeper' s after e)
-      → EndsAtOnce serves.session → TakesTurn gives remaining contents old new clock clock' k keeper keeper' s after
+      → EndsAtOnce serves.session → (serves.gave_up ≡ true → HasBegunMessage serves.stream) → TakesTurn gives remaining contents old new clock clock' k keeper keeper' s after
 
 -- the faults that were counted in a turn
 abbrev pub TellsTurnOf : {R W : Type 0} → Option SessionEnd → Seat R W → Seat R W → Type 0

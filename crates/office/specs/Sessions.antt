@@ -80,6 +80,15 @@ abbrev pub EndsAtOnce : {n : ℕ} {stream : List ℕ} {s : State} {moments out :
 EndsAtOnce (served n stream rest s mid after r now moments text out e gave_up next answers more) = ⊥
 EndsAtOnce _ = ⊤
 
+-- The session gave up this request at this moment: its message was read whole, its moment was told, and
+-- refusal 40 answered it, in full or in part.
+abbrev pub GaveUpAt : {n : ℕ} {stream : List ℕ} {s : State} {moments out : List ℕ} {e : SessionEnd} {gave_up : Bool} {after : State}
+    → Session n stream s moments out e gave_up after → Request → ℕ → Type 0
+GaveUpAt (served n stream rest s mid after q told moments text out e gave_up next answers more) r now = GaveUpAt more r now
+GaveUpAt (gave_up_at n stream rest s q told next readable) r now = (r ≡ q) × (now ≡ told)
+GaveUpAt (write_failed_giving_up_at n stream rest s q told front next readable begins) r now = (r ≡ q) × (now ≡ told)
+GaveUpAt _ r now = ⊥
+
 -- a connection as it was served
 pub record Connection : Type 0 where
   pub stream : List ℕ
@@ -93,3 +102,8 @@ Run s [] moments after = (moments ≡ []) × (after ≡ s)
 Run s (c ∷ cs) moments after =
     (first others : List ℕ) × (mid : State) × (moments ≡ first ++ others)
     × Session most_messages c.stream s first c.answers c.end c.gave_up mid × Run mid cs others after
+
+-- one of the connections gave up this request at this moment
+abbrev pub GaveUpIn : (s : State) (cs : List Connection) (moments : List ℕ) (after : State) → Run s cs moments after → Request → ℕ → Type 0
+GaveUpIn s [] moments after run r now = ⊥
+GaveUpIn s (c ∷ cs) moments after run r now = GaveUpAt run.4 r now ⊎ GaveUpIn run.2 cs run.1 after run.5 r now

@@ -1,5 +1,5 @@
 -- One step of a session: it handles a message, or it ends the session.
-use Rattle.std.specs.Prelude.{◌≡◌, ◌≢◌, ◌⊎◌, ℕ, suc, Bool, List, ◌++◌, length, Option, Some, None, false, IsTrue, Result, Err}
+use Rattle.std.specs.Prelude.{◌≡◌, ◌≢◌, ◌⊎◌, ℕ, suc, Bool, true, List, ◌++◌, length, Option, Some, None, false, IsTrue, Result, Err}
 use Rattle.std.specs.Io.KnownBytes.{Appends, Consumes}
 use Rattle.sigtext.specs.Bytes.{IsBeginning}
 use Rattle.sigtext.specs.declared.refusal.Refusal.{Refusal}
@@ -21,7 +21,7 @@ use Rattle.office.specs.Connections.{Serves, TellsFaults}
 use Rattle.office.specs.Crashes.{LastsThrough}
 use Rattle.office.specs.Foreseeing.{Foresees}
 use Rattle.office.specs.Premise.{HoldsUnless, HoldsUp, IsLeft}
-use Rattle.office.specs.Sessions.{EndsAtOnce, closing, most_messages}
+use Rattle.office.specs.Sessions.{EndsAtOnce, HasBegunMessage, closing, most_messages}
 
 -- One message was answered, and the session goes on. left and left': what was left of the stream before and
 -- after.
@@ -44,13 +44,15 @@ abbrev pub ToCome : Place → ℕ → Type 0
 ToCome p n = p ≡ place.Fresh → n ≡ most_messages
 
 -- A step goes on after one message. Or it ends the session, however many messages were to come, and goes on
--- after none. p: where the feed stood before; reader: what the reader has now.
+-- after none. It gives up only within a message that has begun, unless the feed was fresh. p: where the feed
+-- stood before; reader: what the reader has now.
 abbrev pub Steps : {C K : Type 0} → (C → ℕ → C → Type 0) → Place → Option (List ℕ) → Option (List ℕ) → Option (List ℕ) → Option (List ℕ) → Option (List ℕ) → C → C → Ghosts K → K → K → State → Option SessionEnd → Type 0
 Steps gives p left left' reader output output' clock clock' k keeper keeper' s None =
     (after : State) × IsLeft (k.means keeper') after × Goes gives left left' output output' clock clock' k keeper keeper' s after
 Steps gives p left left' reader output output' clock clock' k keeper keeper' s (Some e) =
     (after : State) × IsLeft (k.means keeper') after × ((n : ℕ) → ToCome p (suc n)
-    → (serves : Serves (suc n) gives left reader output output' clock clock' k keeper keeper' s after e) × EndsAtOnce serves.session)
+    → (serves : Serves (suc n) gives left reader output output' clock clock' k keeper keeper' s after e) × EndsAtOnce serves.session
+    × (p ≢ place.Fresh → serves.gave_up ≡ true → HasBegunMessage serves.stream))
 
 -- the faults that a step counted
 abbrev pub TellsStep : {R W : Type 0} → Option SessionEnd → Counted R → Counted R → Counted W → Counted W → Type 0

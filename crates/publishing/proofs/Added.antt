@@ -42,7 +42,7 @@ published_as s after None same published = tt
 published_as s after (Some text) same published = subst (λ rs. IsTable manifest_head IsReceiptLine (numbered 1 rs) text) (sym same) published
 
 -- the receipts after a file is set
-receipts_with : (s after : State) (f : NewFile) (bytes : List ℕ) → IsFileSet s f bytes after → numbered 1 after.receipts ≡ numbered 1 s.receipts ++ set_receipt f ∷ []
+pub receipts_with : (s after : State) (f : NewFile) (bytes : List ℕ) → IsFileSet s f bytes after → numbered 1 after.receipts ≡ numbered 1 s.receipts ++ set_receipt f ∷ []
 receipts_with s after f bytes set =
     let number : 1 + length s.receipts ≡ f.number = omega (arith, set.file.number) in
     let size = sym set.file.size in

@@ -1,10 +1,10 @@
 -- The text of a published manifest.
-use Rattle.std.specs.Prelude.{◌≡◌, ℕ, List, [], ◌++◌, Option, Some, None, Result, OnOk, ⊤}
+use Rattle.std.specs.Prelude.{◌≡◌, ℕ, List, [], ◌++◌, Option, Some, None, Result, Err, OnOk, ⊤}
 use Rattle.sigtext.specs.Bytes.{IsBeginning}
 use Rattle.boxes.specs.State.{State}
 use Rattle.boxes.specs.Rows.{numbered}
 use Rattle.desk.specs.Lists.{IsTable}
-use Rattle.desk.specs.Manifests.{manifest_head, IsReceiptLine}
+use Rattle.desk.specs.Manifests.{manifest_head, IsReceiptLine, WritesManifest}
 
 -- ---- the text of a sheet, which may be unknown
 
@@ -34,3 +34,8 @@ IsBlank (Some text) = text ≡ []
 abbrev pub IsPublished : State → Option (List ℕ) → Type 0
 IsPublished s None = ⊤
 IsPublished s (Some text) = IsTable manifest_head IsReceiptLine (numbered 1 s.receipts) text
+
+-- the text is unknown, or a beginning of the manifest: of the header line and the lines of the first receipts
+abbrev pub IsBegun : State → Option (List ℕ) → Type 0
+IsBegun s None = ⊤
+IsBegun s (Some text) = WritesManifest {T = ⊤} {E = ⊤} s (Some []) (Some text) (Err tt)

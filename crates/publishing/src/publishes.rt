@@ -1,7 +1,7 @@
 //! `Publisher` implements `Keeper`.
 ghost use Rattle.std.specs.Prelude.{IsTrue};
 ghost use Rattle.boxes.specs.Sound.{IsSound};
-ghost use Rattle.publishing.specs.Published.{IsPublished};
+ghost use Rattle.publishing.specs.Published.{IsBegun, IsPublished};
 
 use crate::publisher::Publisher;
 use crate::sheet::Sheet;
@@ -9,21 +9,22 @@ use boxes::{BoxRow, Change, FileRow, KeyRow, OfficeRow, ReceiptRow, Totals};
 use keeper::{KeepFault, Keeper};
 use std::io::Write;
 
-impl<K: Keeper, S: Sheet + Drop, E: Write + Drop> Keeper for Publisher<'_, K, S, E> {
-    ghost means = { λ p s. K.means p.keeper.now s
-        × (K.is_honest p.keeper.now → IsSound s → IsTrue p.is_whole → IsPublished s (S.text p.sheet)) };
+impl<K: Keeper, S: Sheet + Drop, E: Write + Drop> Keeper for Publisher<K, S, E> {
+    ghost means = { λ p s. K.means p.keeper s
+        × (K.is_honest p.keeper → IsSound s → IsBegun s (S.text p.sheet)
+        × (IsTrue p.is_whole → IsPublished s (S.text p.sheet))) };
 
-    ghost stages = { λ p bytes. K.stages p.keeper.now bytes };
+    ghost stages = { λ p bytes. K.stages p.keeper bytes };
 
-    ghost is_honest = { λ p. K.is_honest p.keeper.now };
+    ghost is_honest = { λ p. K.is_honest p.keeper };
 
-    ghost is_open = { λ p. K.is_open p.keeper.now };
+    ghost is_open = { λ p. K.is_open p.keeper };
 
-    ghost faults = { λ p. K.faults p.keeper.now };
+    ghost faults = { λ p. K.faults p.keeper };
 
-    ghost leaves = { λ p s. K.leaves p.keeper.now s };
+    ghost leaves = { λ p s. K.leaves p.keeper s };
 
-    ghost leaves_whole = { λ p. K.leaves_whole p.keeper.now };
+    ghost leaves_whole = { λ p. K.leaves_whole p.keeper };
 
     ghost has_store = { K.has_store };
 
@@ -99,9 +100,9 @@ impl<K: Keeper, S: Sheet + Drop, E: Write + Drop> Keeper for Publisher<'_, K, S,
         done
     }
 
-    ghost one = { λ p s t honest opened a b. K.one p.keeper.now s t honest opened a.0 b.0 };
+    ghost one = { λ p s t honest opened a b. K.one p.keeper s t honest opened a.0 b.0 };
 
-    ghost one_staged = { λ p a b honest opened x y. K.one_staged p.keeper.now a b honest opened x y };
+    ghost one_staged = { λ p a b honest opened x y. K.one_staged p.keeper a b honest opened x y };
 
-    ghost always = { λ none p. K.always none p.keeper.now };
+    ghost always = { λ none p. K.always none p.keeper };
 }

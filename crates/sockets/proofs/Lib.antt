@@ -2,3 +2,4 @@ pub mod Freed
 pub mod Moved
 pub mod Returned
 pub mod Told
+mod Gave

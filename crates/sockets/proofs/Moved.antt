@@ -1,5 +1,5 @@
 -- What happened at the gate and in the slots, in order.
-use Rattle.std.proofs.Common.{◌≡◌, ◌<◌, ◌∙◌, ◌+◌, ◌++◌, ◌⊎◌, ℕ, inl, inr, Bool, true, false, List, [], ◌∷◌, Option, None, Some, length, ap, append_assoc, refl, sym, subst, arith}
+use Rattle.std.proofs.Common.{◌≡◌, ◌<◌, ◌∙◌, ◌+◌, ◌++◌, ◌⊎◌, ℕ, inl, inr, Bool, false, List, [], ◌∷◌, Option, None, Some, length, ap, append_assoc, refl, sym, subst, arith}
 use Rattle.std.specs.Prelude.{IfSome, cond, is_some}
 use Rattle.std.specs.List.{count_by}
 use Rattle.std.specs.declared.io.Error.{Error}

@@ -1,6 +1,6 @@
 -- Connections that a listener accepted: they came, were served in turns, and went.
 use Rattle.std.specs.Prelude.{◌≡◌, ◌<◌, ◌≤◌, ◌+◌, ◌++◌, ◌∷◌, ◌⊎◌, ◌||◌, zero, suc, ℕ, Bool, List, [], is_some, None, Option, Some, length, true, false}
-use Rattle.std.specs.List.{count_by}
+use Rattle.std.specs.List.{AllByRecursion, count_by}
 use Rattle.std.specs.declared.io.Error.{Error}
 use Rattle.boxes.specs.State.{State}
 use Rattle.keeper.specs.declared.keep.Keeper.{Ghosts}
@@ -114,9 +114,16 @@ pub record Accepts {S E : Type 0} (before after : List (Event S E) → Type 0) (
   pub left : outcome.is_whole ≡ true → (length gone ≡ length came) × ((p : ℕ) → slot_at slots p ≡ None)
   pub whole : outcome.came + outcome.refused ≡ connections → length gone ≡ length came → ((p : ℕ) → slot_at slots p ≡ None) → outcome.is_whole ≡ true
 
--- Connections of a listener came, were served in turns, and went; those that did not go are in the slots. If
--- the keeper meant a sound state before and is honest after, it means the state after, which is sound, and
--- the connections were served from the one to the other.
+-- Turns were given, each to one of the first `came` connections. With those that may still be given they are
+-- 2^64 - 1. given: for each turn, in order, the number of its connection.
+pub record HasGiven (came turns : ℕ) (given : List ℕ) : Type 0 where
+  pub counted : length given + turns ≡ 18446744073709551615
+  pub theirs : AllByRecursion (λ n. n < came) given
+
+-- Connections of a listener came, were served in turns, and went; those that did not go are in the slots. Each
+-- turn was given to a connection that came, and at most 2^64 - 1 turns were given. If the keeper meant a sound
+-- state before and is honest after, it means the state after, which is sound, and the connections were served
+-- from the one to the other, in exactly these turns.
 pub record ServesMany {C K S E : Type 0} (gives : C → ℕ → C → Type 0) (told told' : List (Event S E) → Type 0) (are_ends : S → E → E → Type 0)
     (remaining : Gathered E → Option (List ℕ)) (contents : Outbox E → Option (List ℕ)) (clock clock' : C) (k : Ghosts K) (keeper keeper' : K)
     (connections most : ℕ) (slots : List (Option (Seat (Gathered E) (Outbox E)))) (outcome : Outcome) : Type 0 where
@@ -124,5 +131,8 @@ pub record ServesMany {C K S E : Type 0} (gives : C → ℕ → C → Type 0) (t
   pub gone : List (Seat (Gathered E) (Outbox E))
   pub given : List ℕ
   pub accepts : Accepts told told' are_ends connections most came gone slots outcome
+  -- left: how many more turns the loop might have given
+  pub left : ℕ
+  pub gave : HasGiven (length came) left given
   pub serves : (s : State) → WasKept k keeper keeper' s → (after : State) × IsLeft (k.means keeper') after
       × ServesCrowd gives remaining contents came gone slots clock clock' k keeper keeper' zero given outcome.faulty s after

@@ -1,5 +1,5 @@
 -- What a gate tells of connections that may come.
-use Rattle.std.specs.Prelude.{◌≡◌, ◌<◌, ◌≤◌, ◌⊎◌, ◌+◌, ◌-◌, ◌++◌, ◌∷◌, ℕ, suc, List, [], Option, Some, None, length, slice_set}
+use Rattle.std.specs.Prelude.{◌≡◌, ◌<◌, ◌≤◌, ◌⊎◌, ◌-◌, ◌++◌, ◌∷◌, suc, List, [], Option, Some, None, length, slice_set}
 use Rattle.std.specs.declared.io.Error.{Error}
 use Rattle.office.specs.Crowds.{NoneIsFree, slot_at}
 use Rattle.office.specs.declared.connections.seat.Seat.{Seat}

@@ -41,6 +41,7 @@ impl<'a, R: time::Clock, L: Listener, S: Start<L::Stream, L::End>> Sockets<'a, R
     /// The sockets behind a gate.
     pub(crate) fn new(book: Book<'a, R, L>, gate: Gate<L, L::Stream>) -> Sockets<'a, R, L, S>
         ensures gate { result.gate ≡ gate }
+        ensures turns { result.turns ≡ 18446744073709551615 }
     {
         Sockets {
             book,
@@ -128,11 +129,12 @@ impl<R: time::Clock, L: Listener, S: Start<L::Stream, L::End>> Crowd<
     Outbox<L::End>,
 > for Sockets<'_, R, L, S> {
     ghost use Rattle.std.specs.Prelude.{⊤};
+    ghost use Rattle.sockets.specs.Accepting.{HasGiven};
     ghost use Rattle.sockets.specs.Moving.{HasPassed};
 
     ghost met = { λ s came gone. HasPassed S.told S.connections S.most L.told L.are_ends s.gate came gone };
 
-    ghost gave = { λ _ _ _. ⊤ };
+    ghost gave = { λ s _ given. HasGiven s.gate.came s.turns given };
 
     ghost over = { λ _. ⊤ };
 

@@ -155,6 +155,9 @@ impl<S: Alter> SqlKeeper<S> {
             (first_state office.east office.allowance id.now secret.now)) }
         ensures honest { IfOk result (λ k. HasCleanDisk (state S.Store k.conn)
             → ⟦<SqlKeeper<S> as Keeper>⟧.is_honest k) }
+        ensures early { IfOk result (λ k. HasCleanDisk (state S.Store k.conn)
+            → HasCleanDisk (state S.Store conn)) }
+        ensures bare { IfOk result (λ k. (state S.Store conn).now.schema ≡ s0) }
         ensures opened { IfOk result (λ k. ⟦<SqlKeeper<S> as Keeper>⟧.is_honest k
             → ⟦<SqlKeeper<S> as Keeper>⟧.is_open k) }
         ensures emptied { IfOk result (λ k. ⟦<SqlKeeper<S> as Keeper>⟧.is_honest k
@@ -214,7 +217,8 @@ impl<S: Alter> SqlKeeper<S> {
     ) -> Result<SqlKeeper<S>, (OpenFault, Connection<S>)>
         ensures accepts { HasOurs (state S.Store conn)
             → IfOk result (λ k. ⟦<SqlKeeper<S> as Keeper>⟧.is_honest k
-            → (s : State) × ⟦<SqlKeeper<S> as Keeper>⟧.means k s) }
+            → (s : State) × KeepsState (state S.Store conn) s
+            × ⟦<SqlKeeper<S> as Keeper>⟧.means k s) }
         ensures means { (s : State) → KeepsState (state S.Store conn) s
             → IfOk result (λ k. ⟦<SqlKeeper<S> as Keeper>⟧.means k s) }
         ensures named { IfOk result (λ k. AreNamed (state S.Store conn).now.schema) }
@@ -292,6 +296,8 @@ impl<S: Alter> SqlKeeper<S> {
             → IfOk result (λ k. ⟦<SqlKeeper<S> as Keeper>⟧.is_honest k
             → (s : State) × IsOfficeFile (state S.Store conn) s
             × ⟦<SqlKeeper<S> as Keeper>⟧.means k s) }
+        ensures early { IfOk result (λ k. HasCleanDisk (state S.Store k.conn)
+            → HasCleanDisk (state S.Store conn)) }
         ensures named { IfOk result (λ k. ⟦<SqlKeeper<S> as Keeper>⟧.is_honest k
             → AreFirstNamed (state S.Store conn).now.schema
             ⊎ AreNamed (state S.Store conn).now.schema) }

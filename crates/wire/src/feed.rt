@@ -74,6 +74,21 @@ pub enum Place {
     Over,
 }
 
+impl Place {
+    ghost use Rattle.wire.specs.Feeds.{resumed_at};
+
+    // Where a feed stands that is resumed over a room.
+    fn resumed(self) -> Place
+        ensures { result ≡ resumed_at self }
+    {
+        match self {
+            Place::Fresh | Place::Between => Place::Between,
+            Place::Body(to_come) => Place::Body(to_come),
+            Place::Over => Place::Over,
+        }
+    }
+}
+
 /// Cuts the bytes of a reader into messages.
 #[derive(Drop)]
 pub struct Feed<'r, R> {
@@ -87,7 +102,7 @@ pub struct Feed<'r, R> {
 
 impl<'r, R: Read> Feed<'r, R> {
     ghost use Rattle.wire.specs.contracts.feed.Feed.{the_row};
-    ghost use Rattle.wire.specs.Feeds.{SameReader, ahead_of, left, place_of, reader_of, stood_at, waits_in};
+    ghost use Rattle.wire.specs.Feeds.{SameReader, ahead_of, left, place_of, reader_of, resumed_at, stood_at, waits_in};
 
     /// Reads nothing and takes no memory.
     pub fn new(alloc: Global, reader: &'r mut Counted<R>) -> Feed<'r, R>
@@ -105,11 +120,11 @@ impl<'r, R: Read> Feed<'r, R> {
     }
 
     /// Resumes a feed that was set aside, over the same reader. The feed uses the room, or drops it if its
-    /// own buffer holds waiting bytes.
+    /// own buffer holds waiting bytes. So it has a buffer and takes no memory, also if nothing was read yet.
     pub fn resume(standing: Standing, room: Room, reader: &'r mut Counted<R>) -> Feed<'r, R>
         ensures same { result.reader.ghost_name ≡ reader.entry.ghost_name }
         ensures reader { reader_of result ≡ reader.old }
-        ensures place { place_of result ≡ stood_at standing }
+        ensures place { place_of result ≡ resumed_at (stood_at standing) }
         ensures waiting { waits_in result ≡ ahead_of standing }
     {
         let (alloc, place, backlog) = standing.joined(room);
@@ -117,7 +132,7 @@ impl<'r, R: Read> Feed<'r, R> {
             reader,
             alloc,
             backlog,
-            place,
+            place: place.resumed(),
         }
     }
 

@@ -28,7 +28,8 @@ pub trait Crowd<R: Read, W: Write> {
     ghost met: { Self → List (Seat R W) → List (Seat R W) → Type 0 };
 
     /// The turns given so far, in order, by the numbers of their connections, and for each slot the number of
-    /// the last connection that came into it. A connection's number is the count of connections before it.
+    /// the last connection that came into it. A connection's number is the count of connections before it. A
+    /// crowd may rely on it that the connections in the slots are among those that came.
     ghost gave: { Self → (ℕ → ℕ) → List ℕ → Type 0 };
 
     /// No more turns are due.
@@ -117,6 +118,7 @@ impl<K: Keeper> Office<K> {
             × (now : Option (Seat R W)) × (slots.new ≡ slice_set slots.old index now)
             × TurnsSlot C.now_gives R.remaining W.contents clock.old clock.new
             K.Keeper self.old.keeper self.new.keeper s after (slot_at slots.old index) now result.is_fault }
+        ensures slot { (now : Option (Seat R W)) × (slots.new ≡ slice_set slots.old index now) }
         ensures honest { K.is_honest self.new.keeper → K.is_honest self.old.keeper }
         ensures unstaged { StaysUnstaged K.Keeper self.old.keeper self.new.keeper }
         ensures never_less { K.faults self.old.keeper ≤ K.faults self.new.keeper }
@@ -132,12 +134,14 @@ impl<K: Keeper> Office<K> {
     /// messages, until it went or as it stands in its slot. Over all connections an upload acts once.
     ///
     /// If the keeper was open and no connection gave up, exactly that one state is kept. Changes survive a
-    /// crash, whatever was given up: a crash afterwards leaves the state after, or that state with one more
-    /// request.
+    /// crash: if nothing was given up except at a failed read, a crash afterwards leaves the state after. In
+    /// any case it leaves that state, or that state with one more request: one that a connection gave up,
+    /// done at its moment.
     ///
     /// Exactly the turns that the crowd gives are taken, in order, each by its own connection. Each tells at
-    /// most one moment. The turn in which a connection ends answers no message in full. The connections that
-    /// came, as they were last, are exactly those that went and those in the slots.
+    /// most one moment. The turn in which a connection ends answers no message in full. A connection gives up
+    /// only within a message that has begun. The connections that came, as they were last, are exactly those
+    /// that went and those in the slots.
     pub fn serve_crowd<R: Read, W: Write, G: Crowd<R, W>, C: Clock>(
         &mut self,
         crowd: &mut G,

@@ -93,8 +93,9 @@ pub fn replay_bytes(
 /// Serves connections over an office, one after another, with one writer and every message at `moment`.
 /// Returns how many sessions ended by a failed read or write. The streams are names of files; each file is
 /// opened when its turn comes. The bytes written and the state after are those of sessions of the machine in
-/// order. If the keeper was open and no session gave up, no other state is kept. The error is the first name
-/// whose file could not be opened: the connections before it were served, and none after it.
+/// order. If the keeper was open and no session gave up, no other state is kept. A crash afterwards leaves the
+/// state after; if a message was given up, possibly that state with its request done at its moment. The error
+/// is the first name whose file could not be opened: the connections before it were served, and none after it.
 pub fn replay_over<'a, F: Files, K: Keeper, W: Write>(
     files: &F,
     office: &mut Office<K>,

@@ -16,8 +16,9 @@ impl<K: Keeper> Office<K> {
     /// the other messages get the same answers, and the state after is the same.
     ///
     /// If the keeper was open and no connection gave up, exactly that one state is kept. Changes survive a
-    /// crash, whatever was given up: a crash afterwards leaves the state after, or that state with one more
-    /// request.
+    /// crash: if nothing was given up except at a failed read, a crash afterwards leaves the state after. In
+    /// any case it leaves that state, or that state with one more request: one that a connection gave up,
+    /// done at its moment.
     ///
     /// An upload acts once over a run. Suppose an upload got a receipt, whether its answer was written or
     /// lost. A later upload of the same bytes to the same place gets the same receipt and changes nothing, if

@@ -82,8 +82,8 @@ impl<K: Keeper> Office<K> {
     /// is stored whole or not at all: if nothing was staged before, nothing is staged after, unless the
     /// keeper counted a fault.
     ///
-    /// Changes survive a crash. A crash afterwards leaves the state after or, if something was given up,
-    /// possibly that state with one more request.
+    /// Changes survive a crash. A crash afterwards leaves the state after or, if a message was given up,
+    /// possibly that state with the request of this message done at its moment.
     pub fn session<R: Read, W: Write, C: Clock>(
         &mut self,
         reader: &mut Counted<R>,

@@ -45,7 +45,7 @@ impl<K: Keeper> Office<K> {
         requires { MayBegin (stood_at standing) }
         ensures goes_on { IfNone result.end (stood_at result.standing ≡ stands.Between) }
         ensures steps { (s : State) → WasKept K.Keeper self.old.keeper self.new.keeper s
-            → Steps C.now_gives (stood_at standing)
+            → Steps C.now_gives stands.Between
             (prepend_known (ahead_of standing) (R.remaining reader.old.inner))
             (prepend_known (ahead_of result.standing) (R.remaining reader.new.inner))
             (R.remaining reader.new.inner)
@@ -71,7 +71,7 @@ impl<K: Keeper> Office<K> {
     /// returned if no bytes wait in it, and also if the connection ends; the bytes that were read and not
     /// taken are then discarded. A connection that has ended stays as it is. The bytes read, the moment, the
     /// bytes written, the end and the state after are those of the next message of its session, whatever was
-    /// done for other connections in between.
+    /// done for other connections in between. It is given up only within a message that has begun.
     pub fn take_turn<R: Read, W: Write, C: Clock>(
         &mut self,
         seat: &mut Seat<R, W>,

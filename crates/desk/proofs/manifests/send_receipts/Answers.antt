@@ -14,6 +14,7 @@ pub portions-init : goal.portions-init
 portions-init g c = record {
   from = omega arith;
   stays = stays_unasked _;
+  staged = λ bytes staged. staged;
   count = refl;
   sent = λ s means sound honest end. ([], lines_none _, sends_nothing _);
 }
@@ -84,6 +85,7 @@ portions-preserved g c =
     record {
       from = omega (arith, next, c.portions.invariant.from);
       stays = stays_joined _ _ _ _ c.portions.invariant.stays (stays_ok _ _ _ (rw c.in-Ok.is at c.receipts.ensures.rest));
+      staged = λ bytes staged. c.receipts.ensures.staged bytes (c.portions.invariant.staged bytes staged);
       count = c.in_ok-send_text.ensures.count.ok ∙ c.portions.invariant.count;
       sent = λ s means sound honest end.
           let before = c.receipts.ensures.rest.honest honest in

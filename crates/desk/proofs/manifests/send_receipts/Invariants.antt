@@ -3,6 +3,7 @@ use Rattle.boxes.specs.Rows.{numbered}
 use Rattle.boxes.specs.Sound.{IsSound}
 use Rattle.boxes.specs.State.{State}
 use Rattle.keeper.specs.Bound.{StaysBy}
+use Rattle.keeper.specs.Keeping.{KeepsStaged}
 use Rattle.wire.specs.Sending.{Sends}
 use Rattle.desk.specs.Lists.{AreLines}
 use Rattle.desk.specs.Manifests.{IsReceiptLine}
@@ -16,6 +17,7 @@ abbrev pub invariant-portions : goal.invariant-portions
 invariant-portions g l = record {
   from : 1 ≤ l.from;
   stays : StaysBy {T = Unit {0}} g.K.Keeper l.fn.keeper l.keeper (Ok tt);
+  staged : KeepsStaged g.K.Keeper.stages l.fn.keeper l.keeper;
   count : l.out.faults ≡ l.fn.out.faults;
   sent : (s : State) → g.K.Keeper.means l.fn.keeper s → IsSound s → g.K.Keeper.is_honest l.keeper → l.end ≡ length s.receipts + 1
       → (text : List ℕ) × AreLines IsReceiptLine (take (l.from - 1) (numbered 1 s.receipts)) text

@@ -1,6 +1,7 @@
 use Rattle.std.proofs.Common.{[], zero, ◌++◌, ◌∙◌, subst, sym, arith}
-use Rattle.sockets.specs.Accepting.{Admits}
+use Rattle.sockets.specs.Accepting.{Admits, HasGiven}
 use Rattle.sockets.specs.Moving.{HasPassed}
+use Rattle.sockets.proofs.Gave.{gave_none}
 use Rattle.sockets.proofs.Moved.{passed_none, waits_one}
 use Rattle.sockets.proofs.serving.serve_through.Goals as goal
 
@@ -13,7 +14,7 @@ returns-clause-serves g c =
     let first = passed_none told ends had g.S.Start.connections g.S.Start.most c.new.result (λ log is. subst (λ l. told l log) (sym start.listener) (c.requires.told log is))
     start.guest (sym c.requires.connections ∙ sym start.to_come) (start.most ∙ c.requires.most) start.came start.gone start.unsent in
     let begun = subst (λ x. HasPassed had g.S.Start.connections g.S.Start.most told ends x [] []) (sym c.new-sockets.ensures.gate) first in
-    let all = c.serve_crowd-faulty.ensures.serves [] [] begun (λ p. zero) [] tt in
+    let all = c.serve_crowd-faulty.ensures.serves [] [] begun (λ p. zero) [] (gave_none c.new-sockets.result.gate.came c.new-sockets.result.turns c.new-sockets.ensures.turns) in
     let gate = c.into_gate-gate.result in
     let numbered = subst (λ n. HasPassed had n g.S.Start.most told ends c.serve_crowd-faulty.new.crowd.gate all.0 all.1) (sym c.requires.connections) all.2 in
     let bounded = subst (λ n. HasPassed had c.args.connections n told ends c.serve_crowd-faulty.new.crowd.gate all.0 all.1) (sym c.requires.most) numbered in
@@ -41,5 +42,7 @@ returns-clause-serves g c =
         whole = λ come gone free.
             c.are_all.ensures.all (c.have_come-have_all_come.ensures.all come) (c.are_as_many-have_all_gone.ensures.all (passed.counted ∙ sym gone ∙ sym passed.left)) (c.are_free.ensures.all free);
       };
+      left = c.serve_crowd-faulty.new.crowd.turns;
+      gave = subst (λ n. HasGiven n c.serve_crowd-faulty.new.crowd.turns all.4) (all.2.counted) all.5;
       serves = all.7;
     }

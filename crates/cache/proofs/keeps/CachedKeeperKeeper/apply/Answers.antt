@@ -13,7 +13,7 @@ use Rattle.cache.proofs.keeps.CachedKeeperKeeper.apply.Given as given
 use Rattle.cache.proofs.keeps.CachedKeeperKeeper.apply.Goals as goal
 
 abbrev new : (g : given.Over) (c : goal.After-or_forget g) → CachedKeeper g.row.K.Denot
-new g c = record { keeper = record c.args.self.now.keeper { now = c.apply.new.self }; cache = c.or_forget.new.cache }
+new g c = record { keeper = c.apply.new.self; cache = c.or_forget.new.cache }
 
 pub returns-clause-made : goal.returns-clause-made
 returns-clause-made g c s after m sound is =
@@ -38,12 +38,12 @@ returns-clause-first g c s after m sound is past =
 
 pub returns-clause-durable : goal.returns-clause-durable
 returns-clause-durable g c s after m sound is honest =
-    let Alone : Type 0 = LeavesAlone (λ (k : CachedKeeper g.row.K.Denot) t. g.K.Keeper.leaves k.keeper.now t) (λ k. g.K.Keeper.leaves_whole k.keeper.now) (new g c) after in
+    let Alone : Type 0 = LeavesAlone (λ (k : CachedKeeper g.row.K.Denot) t. g.K.Keeper.leaves k.keeper t) (λ k. g.K.Keeper.leaves_whole k.keeper) (new g c) after in
     let more : LeavesAlone g.K.Keeper.leaves g.K.Keeper.leaves_whole c.apply.new.self after → Alone = λ it. record { there = it.there; alone = it.alone; whole = it.whole } in
     subst (λ (r : Result (Unit {0}) KeepFault). OnOk r Alone) (sym c.or_forget.ensures.same) (on_ok_more c.apply.result (c.apply.ensures.durable s after m.0 sound is honest) more)
 
 pub returns-clause-crash : goal.returns-clause-crash
 returns-clause-crash g c s after m sound is honest =
-    let Either : Type 0 = LeavesEither (λ (k : CachedKeeper g.row.K.Denot) t. g.K.Keeper.leaves k.keeper.now t) (λ k. g.K.Keeper.leaves_whole k.keeper.now) c.args.self.now (new g c) s after in
-    let more : LeavesEither g.K.Keeper.leaves g.K.Keeper.leaves_whole c.args.self.now.keeper.now c.apply.new.self s after → Either = λ it. record { either = it.either; whole = it.whole } in
+    let Either : Type 0 = LeavesEither (λ (k : CachedKeeper g.row.K.Denot) t. g.K.Keeper.leaves k.keeper t) (λ k. g.K.Keeper.leaves_whole k.keeper) c.args.self.now (new g c) s after in
+    let more : LeavesEither g.K.Keeper.leaves g.K.Keeper.leaves_whole c.args.self.now.keeper c.apply.new.self s after → Either = λ it. record { either = it.either; whole = it.whole } in
     subst (λ (r : Result (Unit {0}) KeepFault). OnErr r Either) (sym c.or_forget.ensures.same) (on_err_more c.apply.result (c.apply.ensures.crash s after m.0 sound is honest) more)

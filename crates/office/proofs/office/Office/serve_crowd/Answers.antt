@@ -2,6 +2,8 @@ use Rattle.std.proofs.Common.{[], ◌≡◌, ◌+◌, ◌++◌, ◌∷◌, ◌�
 use Rattle.std.proofs.lemmas.List.{append-nil, length-append, length_push}
 use Rattle.office.specs.Crowds.{numbers_after, whose_turn}
 use Rattle.office.specs.declared.connections.crowding.Due.{Due}
+use Rattle.office.proofs.Changing.{among_turned}
+use Rattle.office.proofs.Ties.{none_is}
 use Rattle.office.proofs.CrowdTurns.{CrowdSoFar, changes_more, crowd_ends, crowd_starts, turned_more}
 use Rattle.office.proofs.KeeperCalls.{unstaged_then}
 use Rattle.office.proofs.office.Office.serve_crowd.Goals as goal
@@ -17,6 +19,7 @@ turns-init g c = (
     [],
     subst (g.G.Crowd.gave c.args.crowd.now numbers) (sym (append-nil given)) gave,
     omega arith,
+    λ p x at. absurd (none_is x (sym (c.requires p) ∙ at)),
     λ s kept. (
       s,
       record { means = kept.means; sound = kept.sound },
@@ -42,7 +45,7 @@ returns-clause-serves g c before gone met numbers given gave =
     let more = c.next.ensures.changes (before ++ i.0) (gone ++ i.1) i.2 in
     let n = length (before ++ i.0) in
     let numbered = numbers_after more.3 n i.3 in
-    let none = subst (λ (r : Option Due). g.G.Crowd.gave c.next.new.self numbered ((given ++ i.4) ++ whose_turn numbered r)) c.in_default.is (more.4 i.3 (given ++ i.4) i.5) in (
+    let none = subst (λ (r : Option Due). g.G.Crowd.gave c.next.new.self numbered ((given ++ i.4) ++ whose_turn numbered r)) c.in_default.is (more.4 i.3 (given ++ i.4) i.7 i.5) in (
       i.0 ++ more.0,
       i.1 ++ more.1,
       subst (λ l. g.G.Crowd.met c.next.new.self l (gone ++ (i.1 ++ more.1))) (append_assoc before i.0 more.0) (subst (g.G.Crowd.met c.next.new.self ((before ++ i.0) ++ more.0)) (append_assoc gone i.1 more.1) more.2),
@@ -51,7 +54,7 @@ returns-clause-serves g c before gone met numbers given gave =
       subst (g.G.Crowd.gave c.next.new.self numbered) (append-nil (given ++ i.4)) none,
       let still : g.G.Crowd.turns c.turns.crowd ≡ g.G.Crowd.turns c.next.new.self + 0 = rw c.in_default.is at c.next.ensures.counts in omega (arith, i.6, still),
       λ s kept.
-          let x = i.7 s kept in
+          let x = i.8 s kept in
           let t = changes_more g.R.Read.remaining g.W.Write.contents g.C.Clock.now_gives g.K.Keeper (length before) c.args.clock.now c.args.self.now.keeper s i.4 c.turns.clock c.turns.self.keeper c.turns.faulty x.0
           c.turns.slots c.next.new.slots i.3 i.0 i.1 more.0 more.1 n (length-append before i.0) more.3 x.2 in (
             x.0,
@@ -81,10 +84,12 @@ turns-preserved g c =
             subst (λ l. g.G.Crowd.met c.next.new.self l (gone ++ (i.1 ++ more.1))) (append_assoc before i.0 more.0) (subst (g.G.Crowd.met c.next.new.self ((before ++ i.0) ++ more.0)) (append_assoc gone i.1 more.1) more.2),
             numbered,
             i.4 ++ whose ∷ [],
-            subst (g.G.Crowd.gave c.next.new.self numbered) (append_assoc given i.4 (whose ∷ [])) (more.4 i.3 (given ++ i.4) i.5),
+            subst (g.G.Crowd.gave c.next.new.self numbered) (append_assoc given i.4 (whose ∷ [])) (more.4 i.3 (given ++ i.4) i.7 i.5),
             omega (arith, i.6, c.in-Some.ensures.counts, length_push i.4 whose),
+            among_turned g.R.Read.remaining g.W.Write.contents c.turns.slots c.next.new.slots c.turn_at-turned.new.slots more.0 more.1 n (length (before ++ (i.0 ++ more.0))) i.3 more.3
+                c.in-Some.due.index turned.slot.0 (sym (length-append (before ++ i.0) more.0) ∙ ap length (append_assoc before i.0 more.0)) c.in-Some.ensures.due turned.slot.1 i.7,
             λ s kept.
-                let x = i.7 s (record { means = kept.means; is_honest = turned.honest kept.is_honest; sound = kept.sound }) in
+                let x = i.8 s (record { means = kept.means; is_honest = turned.honest kept.is_honest; sound = kept.sound }) in
                 let t = changes_more g.R.Read.remaining g.W.Write.contents g.C.Clock.now_gives g.K.Keeper (length before) c.args.clock.now c.args.self.now.keeper s i.4 c.turns.clock c.turns.self.keeper c.turns.faulty x.0
                 c.turns.slots c.next.new.slots i.3 i.0 i.1 more.0 more.1 n (length-append before i.0) more.3 x.2 in
                 let h = turned.turns x.0 (record { means = x.1.means; is_honest = kept.is_honest; sound = x.1.sound }) in (

@@ -2,6 +2,7 @@ use Rattle.std.proofs.Common.{◌≡◌, ◌≤◌, ◌+◌, ◌++◌, ℕ, List
 use Rattle.boxes.specs.State.{State}
 use Rattle.office.specs.Premise.{IsLeft, StaysUnstaged, WasKept}
 use Rattle.office.specs.declared.connections.seat.Seat.{Seat}
+use Rattle.office.specs.Crowds.{AreAmong}
 use Rattle.office.proofs.CrowdTurns.{CrowdSoFar}
 use Rattle.office.proofs.office.Office.serve_crowd.Given as goal
 
@@ -12,6 +13,7 @@ invariant-turns g l =
     → (came went : List (Seat g.row.R.Denot g.row.W.Denot)) × g.G.Crowd.met l.crowd (before ++ came) (gone ++ went)
     × (numbered : ℕ → ℕ) × (more : List ℕ) × g.G.Crowd.gave l.crowd numbered (given ++ more)
     × (g.G.Crowd.turns l.fn.crowd ≡ g.G.Crowd.turns l.crowd + length more)
+    × AreAmong numbered (length (before ++ came)) l.slots
     × ((s : State) → WasKept g.K.Keeper l.fn.self.keeper l.self.keeper s
     → (mid : State) × IsLeft (g.K.Keeper.means l.self.keeper) mid
     × CrowdSoFar g.R.Read.remaining g.W.Write.contents g.C.Clock.now_gives g.K.Keeper l.slots came went (length before) numbered more l.fn.clock l.clock l.fn.self.keeper l.self.keeper l.faulty s mid))

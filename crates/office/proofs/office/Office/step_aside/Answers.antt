@@ -1,7 +1,7 @@
-use Rattle.std.proofs.Common.{◌≡◌, ◌∙◌, ap, sym}
+use Rattle.std.proofs.Common.{◌≡◌, ◌∙◌, ap, inr, sym}
 use Rattle.std.specs.Io.KnownBytes.{prepend_known}
-use Rattle.wire.specs.Feeds.{ahead_of, left, place_of, reader_of}
-use Rattle.office.proofs.SeatTurns.{steps_by}
+use Rattle.wire.specs.Feeds.{ahead_of, left, place_of, reader_of, stood_at}
+use Rattle.office.proofs.SeatTurns.{resumed_between, steps_by}
 use Rattle.office.proofs.office.Office.step_aside.Goals as goal
 
 pub returns-clause-steps : goal.returns-clause-steps
@@ -12,7 +12,10 @@ returns-clause-steps g c s kept =
     sym (c.reader-1.given.1 (sym (c.into_reader.ensures.same ∙ c.set_aside-aside.ensures.same ∙ c.step-end.ensures.same ∙ c.resume-feed.ensures.same)) ∙ c.into_reader.ensures.now ∙ c.set_aside-aside.ensures.reader) in
     steps_by g.C.Clock.now_gives (place_of c.resume-feed.result) _ (left remaining c.resume-feed.result) _ (left remaining c.step-end.new.feed) _ (remaining (reader_of c.step-end.new.feed).inner) _
     _ _ _ _ g.K.Keeper _ _ s c.step-end.result
-    c.resume-feed.ensures.place
+    (c.resume-feed.ensures.place ∙ resumed_between (stood_at c.args.standing) c.requires)
     (ap (λ x. prepend_known x (remaining (reader_of c.resume-feed.result).inner)) c.resume-feed.ensures.waiting ∙ ap (λ x. prepend_known (ahead_of c.args.standing) (remaining x.inner)) c.resume-feed.ensures.reader)
     (ap (λ x. prepend_known x (remaining (reader_of c.step-end.new.feed).inner)) (sym c.set_aside-aside.ensures.waiting) ∙ ap (λ x. prepend_known (ahead_of c.set_aside-aside.result.0) (remaining x.inner)) last)
     (ap (λ x. remaining x.inner) last) h
+
+pub step-end-requires : goal.step-end-requires
+step-end-requires g c = inr (c.resume-feed.ensures.place ∙ resumed_between (stood_at c.args.standing) c.requires)

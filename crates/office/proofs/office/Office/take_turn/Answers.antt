@@ -1,8 +1,9 @@
-use Rattle.std.proofs.Common.{◌≡◌, ◌∙◌, ◌-◌, None, Some, suc, refl, sym, arith}
+use Rattle.std.proofs.Common.{◌∙◌, ◌-◌, None, Some, suc, refl, sym, arith}
 use Rattle.office.specs.declared.connections.session.SessionEnd.TheVariants.{Limit}
 use Rattle.office.specs.Seats.{had_ended, went_on, ended, left_of}
 use Rattle.office.proofs.SeatTurns.{none_of, some_of, steps_of}
-use Rattle.office.proofs.SessionSteps.{none_ends, serves_none}
+use Rattle.wire.specs.declared.feed.Place.TheVariants as place
+use Rattle.office.proofs.SessionSteps.{none_ends, none_gives_up, not_fresh, serves_none}
 use Rattle.office.proofs.office.Office.take_turn.Goals as goal
 
 pub returns-then-is_some-clause-turns : goal.returns-then-is_some-clause-turns
@@ -18,7 +19,8 @@ returns-then-seat-ge-MOST_MESSAGES-clause-turns g c s kept =
       record { means = kept.means; sound = kept.sound },
       ended 0 Limit was_open refl refl (omega (arith, c.if-seat-ge-MOST_MESSAGES.true, seat.few))
           (serves_none g.C.Clock.now_gives (left_of g.R.Read.remaining seat) (g.R.Read.remaining seat.reader.inner) (g.W.Write.contents seat.writer.inner) c.args.clock.now g.K.Keeper c.args.self.now.keeper s)
-          (none_ends g.C.Clock.now_gives (left_of g.R.Read.remaining seat) (g.R.Read.remaining seat.reader.inner) (g.W.Write.contents seat.writer.inner) c.args.clock.now g.K.Keeper c.args.self.now.keeper s),
+          (none_ends g.C.Clock.now_gives (left_of g.R.Read.remaining seat) (g.R.Read.remaining seat.reader.inner) (g.W.Write.contents seat.writer.inner) c.args.clock.now g.K.Keeper c.args.self.now.keeper s)
+          (none_gives_up g.C.Clock.now_gives (left_of g.R.Read.remaining seat) (g.R.Read.remaining seat.reader.inner) (g.W.Write.contents seat.writer.inner) c.args.clock.now g.K.Keeper c.args.self.now.keeper s),
     )
 
 pub returns-in-None-clause-turns : goal.returns-in-None-clause-turns
@@ -35,9 +37,9 @@ returns-in-Some-clause-turns g c s kept =
     let was_open = none_of seat.end (sym c.is_some.ensures ∙ c.if-is_some.false) in
     let h = steps_of g.C.Clock.now_gives g.R.Read.remaining seat c.replace-standing.result _ _ _ _ c.args.clock.now c.step_aside-aside.new.clock g.K.Keeper c.args.self.now.keeper c.step_aside-aside.new.self.keeper s c.step_aside-aside.result.end (Some c.in-Some.end)
     c.replace-standing.ensures.value c.in-Some.is (c.step_aside-aside.ensures.steps s kept) in
-    let last = h.2 (999 - seat.served) (λ fresh. let none : seat.served ≡ 0 = seat.fresh was_open fresh in omega (arith, none)) in (
+    let last = h.2 (999 - seat.served) (λ fresh. absurd (not_fresh place.Between refl fresh)) in (
       h.0,
       h.1,
       ended (suc (999 - seat.served)) c.in-Some.end was_open refl refl (omega (arith, c.if-seat-ge-MOST_MESSAGES.false))
-          last.0 last.1,
+          last.0 last.1 (last.2 (not_fresh place.Between refl)),
     )

@@ -13,3 +13,6 @@ returns-clause-turns g c s kept =
       subst (λ o. TurnsSlot g.C.Clock.now_gives g.R.Read.remaining g.W.Write.contents c.args.clock.now c.turn_slot.new.clock g.K.Keeper c.args.self.now.keeper c.turn_slot.new.self.keeper s h.0 o c.turn_slot.new.slot c.turn_slot.result.is_fault)
           (sym (get_or_default c.args.slots.now c.args.index None c.index-slots-index.result c.requires)) h.2,
     )
+
+pub returns-clause-slot : goal.returns-clause-slot
+returns-clause-slot g c = (c.turn_slot.new.slot, refl)

@@ -1,15 +1,18 @@
-use Rattle.std.proofs.Common.{ap, subst, sym}
+use Rattle.std.proofs.Common.{subst, sym}
 use Rattle.publishing.proofs.Added.{may_change, on_err_more, on_ok_more}
 use Rattle.publishing.proofs.publishes.PublisherKeeper.apply.Goals as goal
 
 pub returns-then-is_ok-clause-made : goal.returns-then-is_ok-clause-made
 returns-then-is_ok-clause-made g c = λ s after m sound is.
-    let same = ap (λ k. k.now) c.note.ensures.keeper in
+    let same = c.note.ensures.keeper in
     on_ok_more c.apply-done.result (c.apply-done.ensures.made s after m.0 sound is) (λ means. (
       subst (λ k. g.K.Keeper.means k after) (sym same) means,
-      λ honest sound_after whole.
-          let before = c.apply-done.ensures.honest (subst g.K.Keeper.is_honest same honest) in
-          c.note.ensures.published s after (may_change _ s c.args.change.now after is) (m.1 before sound (c.note.ensures.whole whole)) whole,
+      λ honest sound_after.
+          let was = m.1 (c.apply-done.ensures.honest (subst g.K.Keeper.is_honest same honest)) sound in
+          let may = may_change _ s c.args.change.now after is in (
+            c.note.ensures.begun s after may was.1 was.0,
+            λ whole. c.note.ensures.published s after may (was.1 (c.note.ensures.whole whole)) whole,
+          ),
     ))
 
 pub returns-then-is_ok-clause-room : goal.returns-then-is_ok-clause-room
@@ -17,7 +20,7 @@ returns-then-is_ok-clause-room g c = λ s after m sound is. c.apply-done.ensures
 
 pub returns-then-is_ok-clause-durable : goal.returns-then-is_ok-clause-durable
 returns-then-is_ok-clause-durable g c = λ s after m sound is honest.
-    let same = ap (λ k. k.now) c.note.ensures.keeper in
+    let same = c.note.ensures.keeper in
     on_ok_more c.apply-done.result (c.apply-done.ensures.durable s after m.0 sound is (subst g.K.Keeper.is_honest same honest)) (λ it. record {
       there = subst (λ k. g.K.Keeper.leaves k after) (sym same) it.there;
       alone = λ t l. it.alone t (subst (λ k. g.K.Keeper.leaves k t) same l);

@@ -1,4 +1,4 @@
-use Rattle.std.proofs.Common.{inl, inr, refl}
+use Rattle.std.proofs.Common.{inr, refl}
 use Rattle.sockets.proofs.gate.Gate+L+L+Stream.put_off.Goals as goal
 
 pub returns-then-not-is_want-clause-told : goal.returns-then-not-is_want-clause-told

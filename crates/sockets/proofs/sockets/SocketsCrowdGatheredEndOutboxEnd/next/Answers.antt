@@ -1,4 +1,6 @@
-use Rattle.std.proofs.Common.{◌∙◌, refl}
+use Rattle.std.proofs.Common.{◌∙◌, length, refl, arith}
+use Rattle.std.proofs.lemmas.List.{length-append}
+use Rattle.sockets.proofs.Gave.{gave_one, gave_still}
 use Rattle.sockets.proofs.Moved.{moves_met, moves_none, moves_then}
 use Rattle.sockets.proofs.sockets.SocketsCrowdGatheredEndOutboxEnd.next.Goals as goal
 
@@ -8,17 +10,37 @@ steps-init g c = (moves_none _ _ _ _ c.args.self.now.gate c.args.slots.now, refl
 pub returns-in-Turn-clause-changes : goal.returns-in-Turn-clause-changes
 returns-in-Turn-clause-changes g c came gone met =
     let all = moves_then _ _ _ _ c.args.self.now.gate c.steps.self.gate c.go.new.self.gate c.args.slots.now c.steps.slots c.go.new.slots c.steps.invariant.0 c.go.ensures.moves in
-    let x = moves_met _ _ _ _ _ _ _ c.args.self.now.gate c.go.new.self.gate c.args.slots.now c.go.new.slots all came gone met in (x.0, x.1, x.2, x.3, λ numbers given gave. tt)
+    let x = moves_met _ _ _ _ _ _ _ c.args.self.now.gate c.go.new.self.gate c.args.slots.now c.go.new.slots all came gone met in (
+      x.0,
+      x.1,
+      x.2,
+      x.3,
+      λ numbers given among gave.
+          gave_one _ _ c.args.slots.now c.go.new.slots x.0 x.1 (length came) numbers x.3 c.in-Turn.due.index _ _ _ _ given among (c.is_open_at.ensures c.if-is_open_at.true) met.counted (omega (arith, met.counted, x.2.counted, length-append came x.0))
+          (omega (arith, c.if-self-gt0.true, c.go.ensures.turns, c.steps.invariant.1)) gave,
+    )
 
 pub returns-in-Over-clause-changes : goal.returns-in-Over-clause-changes
 returns-in-Over-clause-changes g c came gone met =
     let all = moves_then _ _ _ _ c.args.self.now.gate c.steps.self.gate c.go.new.self.gate c.args.slots.now c.steps.slots c.go.new.slots c.steps.invariant.0 c.go.ensures.moves in
-    let x = moves_met _ _ _ _ _ _ _ c.args.self.now.gate c.go.new.self.gate c.args.slots.now c.go.new.slots all came gone met in (x.0, x.1, x.2, x.3, λ numbers given gave. tt)
+    let x = moves_met _ _ _ _ _ _ _ c.args.self.now.gate c.go.new.self.gate c.args.slots.now c.go.new.slots all came gone met in (
+      x.0,
+      x.1,
+      x.2,
+      x.3,
+      λ numbers given among gave. gave_still _ _ _ _ given (omega (arith, met.counted, x.2.counted, length-append came x.0)) (c.go.ensures.turns ∙ c.steps.invariant.1) gave,
+    )
 
 pub returns-in-Turn-3-clause-changes : goal.returns-in-Turn-3-clause-changes
 returns-in-Turn-3-clause-changes g c came gone met =
     let all = moves_then _ _ _ _ c.args.self.now.gate c.steps.self.gate c.go.new.self.gate c.args.slots.now c.steps.slots c.go.new.slots c.steps.invariant.0 c.go.ensures.moves in
-    let x = moves_met _ _ _ _ _ _ _ c.args.self.now.gate c.go.new.self.gate c.args.slots.now c.go.new.slots all came gone met in (x.0, x.1, x.2, x.3, λ numbers given gave. tt)
+    let x = moves_met _ _ _ _ _ _ _ c.args.self.now.gate c.go.new.self.gate c.args.slots.now c.go.new.slots all came gone met in (
+      x.0,
+      x.1,
+      x.2,
+      x.3,
+      λ numbers given among gave. gave_still _ _ _ _ given (omega (arith, met.counted, x.2.counted, length-append came x.0)) (c.go.ensures.turns ∙ c.steps.invariant.1) gave,
+    )
 
 pub steps-preserved : goal.steps-preserved
 steps-preserved g c = (
@@ -28,4 +50,10 @@ steps-preserved g c = (
 
 pub returns-clause-changes : goal.returns-clause-changes
 returns-clause-changes g c came gone met =
-    let x = moves_met _ _ _ _ _ _ _ c.args.self.now.gate c.steps.self.gate c.args.slots.now c.steps.slots c.steps.invariant.0 came gone met in (x.0, x.1, x.2, x.3, λ numbers given gave. tt)
+    let x = moves_met _ _ _ _ _ _ _ c.args.self.now.gate c.steps.self.gate c.args.slots.now c.steps.slots c.steps.invariant.0 came gone met in (
+      x.0,
+      x.1,
+      x.2,
+      x.3,
+      λ numbers given among gave. gave_still _ _ _ _ given (omega (arith, met.counted, x.2.counted, length-append came x.0)) c.steps.invariant.1 gave,
+    )

@@ -14,9 +14,8 @@ returns-in-Ok-clause-accepts g c ours clean =
     let old = state g.S.Store c.args.conn in
     let mid = state g.S.Store c.find.new.conn in
     let new = state g.S.Store c.empty_file.new.conn in
-    let it = accepted old mid c.in-Ok-Sound.ensures.rest (λ clean. c.in-Ok-Sound.ensures.opened clean (sound_is_whole c.in-Ok-Sound.field-0-is)) c.in-Ok-Sound.ensures.at_rest
-    (λ ours clean was_open. subst (λ f. IsFound v2 f old.now) c.in-Ok-Sound.field-0-is (c.in-Ok-Sound.ensures.found ours clean was_open)) new c.empty_file.ensures.honest c.in-Ok.ensures.made ours clean in
-    (it.0, it.2)
+    accepted old mid c.in-Ok-Sound.ensures.rest (λ clean. c.in-Ok-Sound.ensures.opened clean (sound_is_whole c.in-Ok-Sound.field-0-is)) c.in-Ok-Sound.ensures.at_rest
+    (λ ours clean was_open. subst (λ f. IsFound v2 f old.now) c.in-Ok-Sound.field-0-is (c.in-Ok-Sound.ensures.found ours clean was_open)) new c.empty_file.ensures.honest c.in-Ok.ensures.made ours clean
 
 pub returns-in-Ok-clause-means : goal.returns-in-Ok-clause-means
 returns-in-Ok-clause-means g c =

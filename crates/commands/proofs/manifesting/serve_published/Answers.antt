@@ -1,0 +1,34 @@
+use Rattle.std.proofs.Common.{◌≡◌, ap, inr, refl, subst, sym, ◌∙◌, ⊎_elim}
+use Rattle.publishing.specs.declared.publisher.Publisher.{Publisher}
+use Rattle.commands.proofs.Crowds.{less}
+use Rattle.commands.proofs.Landing.{looks, more, unasked, within}
+use Rattle.commands.proofs.manifesting.serve_published.Goals as goal
+
+pub returns-in_default : goal.returns-in_default
+returns-in_default g c = unasked refl (λ s. inr (looks s, c.unserved.ensures))
+
+pub returns-in_default-create : goal.returns-in_default-create
+returns-in_default-create g c =
+    rw (c.published.ensures.served, c.published.ensures.clock, ← c.new-office.ensures)
+    (more (less _ _ _ _ _ _ _ _ _ _ _ _ c.published.ensures.done) c.serve_at-session.ensures)
+
+pub returns : goal.returns
+returns g c =
+    let k = g.K.Keeper in
+    let (told, stays, whole) = c.begin-publisher.ensures.stays in
+    let same = ap (λ (p : Publisher g.row.K.Denot _ _). p.keeper) c.new-office-2.ensures ∙ c.unless_placed.ensures in
+    rw (c.into_inner.ensures, c.published-2.ensures.served, c.published-2.ensures.clock)
+    (more (less _ _ _ _ _ _ _ _ _ _ _ _ c.published-2.ensures.done) (within
+    (record {
+      honest = λ honest. honest;
+      before = λ honest. stays.honest (subst k.is_honest same honest);
+      means = λ s means clean. (subst (λ x. k.means x s) (sym same) (stays.same s means), λ honest sound. (tt, λ is_whole. tt));
+      within = λ s means. means.0;
+      alone = λ s means clean alone. record {
+        alone = λ t at. ⊎_elim (alone.alone t) (λ (is : t ≡ s). is) (stays.crash s t means (subst k.is_honest same clean) (subst (λ x. k.leaves x t) same at));
+        whole = subst k.leaves_whole (sym same) (stays.whole s means (subst k.is_honest same clean) alone.whole);
+      };
+      leaves = λ t at. at;
+      whole = λ whole. whole;
+    })
+    c.serve_at-session-2.ensures))

@@ -1,0 +1,7 @@
+pub mod Asking
+pub mod Listing
+pub mod Obeying
+pub mod Replaying
+pub mod Saying
+pub mod Serving
+pub mod Working

@@ -1,0 +1,192 @@
+//! `drop serve`: serves an office at an address.
+ghost use Rattle.std.specs.Prelude.{IsOk, IsOkAnd};
+ghost use Rattle.commands.specs.Serving.{IsFine, MayServe};
+ghost use Rattle.commands.specs.Working.{Passes};
+
+use crate::arguments::Argument;
+use crate::faults::Fault;
+use crate::outside::Outside;
+use crate::work::OfficeWork;
+use cache::CachedKeeper;
+use keeper::Keeper;
+use mio::Poll;
+use office::Office;
+use rolls::Rolls;
+use sockets::{Limits, Listener, Outcome, Served, serve};
+use std::io;
+use std::io::{Read, Write};
+use std::net::SocketAddrV4;
+use std::time::Duration;
+use tasks::Serve;
+use wire::{Gathered, Outbox};
+
+/// The parsed arguments of a service.
+#[derive(Clone, Copy, Debug)]
+pub struct Service<'a> {
+    /// The office file.
+    pub file: &'a str,
+    /// The address, as it was given.
+    pub listen: &'a str,
+    /// The address.
+    pub address: SocketAddrV4,
+    /// The limits on connections.
+    pub limits: Limits,
+}
+
+/// What a service gives: its result, and its listener, its clock and its connections as they were last, if it listened.
+#[derive(Drop)]
+pub struct Session<L, E, C> {
+    /// The result.
+    pub result: Result<(), Fault>,
+    /// The listener, the connections that are left, and the outcome.
+    pub served: Option<Served<L, E>>,
+    /// The clock.
+    pub clock: Option<C>,
+}
+
+/// A service, the output, which gets the address, and what the service takes from outside.
+#[derive(Drop)]
+pub struct ServeWork<'w, W: Drop, N: Drop> {
+    /// The service.
+    pub service: Service<'w>,
+    /// The output.
+    pub out: W,
+    /// Where it listens, and its clock.
+    pub outside: N,
+}
+
+impl<W: Write + Drop, N: Outside + Drop> OfficeWork for ServeWork<'_, W, N> {
+    ghost use Rattle.std.specs.Prelude.{IsOk};
+    ghost use Rattle.commands.specs.Serving.{MayServe};
+
+    type Gain = Session<N::Listener, <N::Listener as Listener>::End, N::Clock>;
+
+    ghost step = { λ work gain. MayServe N.listens N.begins N.Clock.now_gives N.Listener.told
+        N.Listener.are_ends ⟦<Gathered<<N::Listener as Listener>::End> as Read>⟧.remaining
+        ⟦<Outbox<<N::Listener as Listener>::End> as Write>⟧.contents work.service.limits
+        (IsOk gain.result) gain.served gain.clock };
+
+    ghost idle = { λ work gain. IsOk gain.result → ⊥ };
+
+    fn run<K: Rolls>(
+        self,
+        rt: &HostRuntime,
+        keeper: K,
+    ) -> (
+        Session<N::Listener, <N::Listener as Listener>::End, N::Clock>,
+        K,
+    ) {
+        let ServeWork {
+            service,
+            mut out,
+            outside,
+        } = self;
+        let mut office = Office::new(rt.alloc(), CachedKeeper::new(rt.alloc(), keeper));
+        let session = serve_at(rt, &mut office, &service, &outside, &mut out);
+        (session, office.keeper.into_inner())
+    }
+
+    fn refuse(
+        self,
+        fault: Fault,
+    ) -> Session<N::Listener, <N::Listener as Listener>::End, N::Clock> {
+        unserved(fault)
+    }
+}
+
+/// Reads the arguments. Fails if one is malformed.
+pub fn read_service<'a>(words: &Serve<'a>) -> Result<Service<'a>, Fault> {
+    let address = read_address(words.listen).ok_or(Fault::MalformedValue(Argument::Listen))?;
+    let Ok(connections) = words.connections.parse::<u64>() else {
+        return Err(Fault::MalformedValue(Argument::Connections));
+    };
+    let Ok(seconds) = words.patience.parse::<u64>() else {
+        return Err(Fault::MalformedValue(Argument::Patience));
+    };
+    let patience = match seconds {
+        0 => None,
+        _ => Some(Duration::from_secs(seconds)),
+    };
+    let Ok(open) = words.open.parse::<usize>() else {
+        return Err(Fault::MalformedValue(Argument::Open));
+    };
+    Ok(Service {
+        file: words.file,
+        listen: words.listen,
+        address,
+        limits: Limits {
+            connections,
+            patience,
+            open,
+        },
+    })
+}
+
+// An address `a.b.c.d:port`, without leading zeros in any number.
+fn read_address(text: &str) -> Option<SocketAddrV4> {
+    let (_, port) = text.split_once(':')?;
+    if port.len() > 1 && port.starts_with('0') {
+        return None;
+    }
+    SocketAddrV4::parse_ascii(text.as_bytes()).ok()
+}
+
+/// What a service gives that never listened.
+pub fn unserved<L, E, C>(fault: Fault) -> Session<L, E, C>
+    ensures { IsOk result.result → ⊥ }
+{
+    Session {
+        result: Err(fault),
+        served: None,
+        clock: None,
+    }
+}
+
+/// Listens at the address, says so on `out`, and serves the connections. Warns on standard error if the office file is too
+/// large for the memory.
+pub(crate) fn serve_at<K: Keeper, N: Outside, W: Write>(
+    rt: &HostRuntime,
+    office: &mut Office<K>,
+    service: &Service<'_>,
+    outside: &N,
+    out: &mut W,
+) -> Session<N::Listener, <N::Listener as Listener>::End, N::Clock>
+    ensures { Passes K.Keeper office.old.keeper office.new.keeper
+        (MayServe N.listens N.begins N.Clock.now_gives N.Listener.told
+        N.Listener.are_ends ⟦<Gathered<<N::Listener as Listener>::End> as Read>⟧.remaining
+        ⟦<Outbox<<N::Listener as Listener>::End> as Write>⟧.contents service.now.limits
+        (IsOk result.result) result.served result.clock) }
+{
+    let Some(listener) = outside.listen(service.address) else {
+        return unserved(Fault::CannotListen);
+    };
+    let Ok(poll) = Poll::new(rt) else {
+        return unserved(Fault::CannotListen);
+    };
+    let Ok(mut clock) = outside.clock(service.file) else {
+        return unserved(Fault::OutOfMemory);
+    };
+    if writeln!(out, "listening on {}", service.listen).is_err() || out.flush().is_err() {
+        return unserved(Fault::CannotWrite);
+    }
+    let served = serve(rt, poll, office, listener, service.limits, &mut clock);
+    Session {
+        result: result_of(&served.outcome),
+        served: Some(served),
+        clock: Some(clock),
+    }
+}
+
+// The result of a service.
+fn result_of(outcome: &io::Result<Outcome>) -> Result<(), Fault>
+    ensures { IsOk result → IsOkAnd outcome.now IsFine }
+{
+    let Ok(outcome) = outcome else {
+        return Err(Fault::CannotListen);
+    };
+    if outcome.is_whole && outcome.refused == 0 && outcome.faulty == 0 {
+        Ok(())
+    } else {
+        Err(Fault::ConnectionFailed)
+    }
+}

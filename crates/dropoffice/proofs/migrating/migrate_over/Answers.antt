@@ -1,0 +1,24 @@
+use Rattle.sqlite.specs.Held.{state}
+use Rattle.dropoffice.proofs.Ended.{ours_open, still_sees}
+use Rattle.dropoffice.proofs.migrating.migrate_over.Goals as goal
+
+pub returns-in-Ok-clause-made : goal.returns-in-Ok-clause-made
+returns-in-Ok-clause-made g c was clean =
+    let closed = c.close.ensures in
+    let begun = c.in-Ok.ensures in
+    let ours = ours_open g.S.Store c.args.conn (g.met.S.Store.shut_if_dirty c.args.conn.store) was in
+    let honest = closed.honest.1 clean in
+    let (s, file, means) = begun.accepts ours honest in
+    let alone = begun.durable honest s means in
+    record {
+      early = begun.early honest;
+      office = s;
+      kept = file;
+      keeps = (closed.means s).0 means;
+      crash = λ t may. alone.alone t ((closed.leaves t).1 may);
+      whole = closed.whole.0 alone.whole;
+    }
+
+pub returns-in-Err-clause-looked : goal.returns-in-Err-clause-looked
+returns-in-Err-clause-looked g c =
+    still_sees g.S.Store c.args.conn (g.met.S.Store.shut_if_dirty c.args.conn.store) (state g.S.Store c.in-Err.conn) c.in-Err.ensures.kept

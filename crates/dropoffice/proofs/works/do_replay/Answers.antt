@@ -1,0 +1,31 @@
+use Rattle.std.proofs.Common.{⊎_elim, List, length, subst}
+use Rattle.std.specs.Borrow.{Bor}
+use Rattle.std.specs.Prelude.{◌≢◌, IsOk, ℕ}
+use Rattle.sqlite.specs.WalFiles.{image_at}
+use Rattle.sigv4.specs.Dates.{WritesMoment}
+use Rattle.commands.specs.Replaying.{ReplaysAll}
+use Rattle.commands.specs.Saying.{HandsBack}
+use Rattle.dropoffice.specs.Leaving.{IsClosed}
+use Rattle.dropoffice.specs.Performing.{Answers}
+use Rattle.dropoffice.specs.declared.opening.Purpose.TheVariants as purpose
+use Rattle.dropoffice.proofs.Less.{run_over}
+use Rattle.dropoffice.proofs.works.do_replay.Goals as goal
+
+pub returns-clause-ran : goal.returns-clause-ran
+returns-clause-ran g c ours =
+    let gain = c.work_over.result.gain in
+    run_over c.work_over.result.left (ReplaysAll g.W.Write.contents (length c.as_slice-streams.result.now) c.in-Some.moment (IsOk gain.result) c.args.out gain.out)
+    (Answers c.args.words.now g.W.Write.contents (IsOk gain.result) c.args.out gain.out)
+    (HandsBack (IsOk gain.result) c.args.out gain.out) (IsOk gain.result)
+    (λ s after asked it. record {
+      moment = c.in-Some.moment;
+      is_moment = subst (λ (text : List ℕ). WritesMoment text c.in-Some.moment) c.as_bytes.ensures.value c.in-Some.ensures.some;
+      replays = subst (λ (streams : List (Bor (List ℕ))). ReplaysAll g.W.Write.contents (length streams) c.in-Some.moment (IsOk gain.result) c.args.out gain.out s after asked) c.as_slice-streams.ensures.value it;
+    })
+    (λ idle. idle.0) (image_at g.S.Start) (c.work_over.ensures.ran ours)
+
+pub returns-clause-opened : goal.returns-clause-opened
+returns-clause-opened g c done other closed =
+    let gain = c.work_over.result.gain in
+    ⊎_elim (λ (idle : HandsBack (IsOk gain.result) c.args.out gain.out). absurd (idle.0 done))
+    (λ (close : IsOk c.work_over.result.closed → purpose.Change ≢ purpose.Look → IsClosed c.work_over.result.left). close closed (λ same. (let is = same in cc))) c.work_over.ensures.closed
