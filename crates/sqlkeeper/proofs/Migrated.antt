@@ -5,6 +5,7 @@ use Rattle.sqlite_schema.specs.declared.schema.Schema.{Schema}
 use Rattle.sqlite.specs.Effect.{Database}
 use Rattle.sqlite.specs.State.{State, HasCleanDisk}
 use Rattle.boxes.specs.State.{State as Office}
+use Rattle.boxes.specs.Sound.{IsSound}
 use Rattle.sqltables.specs.Schema.{Version, IsVersion, v1, v2, begun_schemas, first_version, second_version}
 use Rattle.sqltables.specs.Means.{Holds, Means, AddsOnly}
 use Rattle.sqltables.specs.Tables.{tables_of}
@@ -13,6 +14,7 @@ use Rattle.sqlaudit.specs.declared.opening.Found.{Found}
 use Rattle.sqlaudit.specs.declared.opening.Found.TheVariants as found
 use Rattle.sqlaudit.specs.Opened.{HasOurs, OnlyLooks, LeavesUntouched, IsAtRest, IsEither}
 use Rattle.sqlaudit.proofs.Extents.{ours_begun}
+use Rattle.sqlkeeper.specs.Sparing.{Spares}
 use Rattle.sqlkeeper.specs.Versions.{KeepsFirst, IsOfficeFile}
 use Rattle.sqlkeeper.proofs.AtRest.{means_old, means_new, means_same, keeps_same}
 
@@ -100,6 +102,18 @@ module _ (old mid : State) (looks : LeavesUntouched old mid) where
       same = λ clean. absurd (never (honest clean));
       crash = λ clean. absurd (never (honest clean));
       honest = λ clean. looks.honest (honest clean);
+    }
+
+    -- what was there and is sound is all that a crash leaves
+    pub spares_still : (Was : Office → Type 0) → (HasCleanDisk new → (s : Office) × Was s × IsSound s × AddsOnly v2 mid new s) → Spares old new Was
+    spares_still Was there = record {
+      honest = λ clean. looks.honest (honest clean);
+      crash = λ clean trees left.
+          let it = there clean in
+          elim (adds_still it.0 it.3 clean trees left) [
+            | inl was ↦ inl was
+            | inr means ↦ inr (it.0, it.1, record { means = means; sound = it.2 })
+          ];
     }
 
   pub adds_nothing : (s : Office) → AddsOnly v2 old mid s

@@ -1,5 +1,5 @@
 -- What comes next in the tables comes next in the office.
-use Rattle.std.proofs.Common.{◌≡◌, ℕ, List, Bool, Option, None, Some, Less, true, false, option_map, refl}
+use Rattle.std.proofs.Common.{◌≡◌, ℕ, List, Option, None, Some, true, false, option_map, refl}
 use Rattle.std.specs.Prelude.{IsSome}
 use Rattle.std.specs.FinMap.{get}
 use Rattle.sigtext.specs.Bytes.{bytes_cmp}

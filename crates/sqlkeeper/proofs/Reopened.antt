@@ -10,8 +10,9 @@ use Rattle.sqltables.specs.Kept.{KeepsState}
 use Rattle.sqltables.specs.OneState.{one_kept}
 use Rattle.sqlaudit.specs.Opened.{HasOurs, LeavesUntouched, IsAtRest, AreOffice}
 use Rattle.sqlkeeper.specs.Emptying.{EmptiesStaged, HasNoneStaged}
+use Rattle.sqlkeeper.specs.Sparing.{Spares}
 use Rattle.sqlkeeper.proofs.AtRest.{means_old, means_new, keeps_same}
-use Rattle.sqlkeeper.proofs.Migrated.{adds_still, looks_still, untouched_never}
+use Rattle.sqlkeeper.proofs.Migrated.{adds_still, looks_still, spares_still, untouched_never}
 
 module _ (old mid : State) (looks : LeavesUntouched old mid) (stays : HasCleanDisk mid → IsTrue mid.is_open) (rest : HasCleanDisk mid → IsAtRest mid)
     (tells : HasOurs old → HasCleanDisk mid → IsTrue old.is_open → (office : Office) × AreOffice v2 old.now office) (new : State) (honest : HasCleanDisk new → HasCleanDisk mid) where
@@ -53,6 +54,12 @@ module _ (old mid : State) (looks : LeavesUntouched old mid) (stays : HasCleanDi
   -- a crash leaves what it could leave before, or tables that mean the office
   pub failed : ((s : Office) → Means v2 mid s → AddsOnly v2 mid new s) → (s : Office) → KeepsState old s → AddsOnly v2 old new s
   failed adds s keeps = adds_still old mid looks new honest s (adds s (keeps_same old mid looks.honest looks.same s keeps).means)
+
+  -- a crash leaves what it could leave before, or again the office that was found
+  pub spares : ((s : Office) → Means v2 mid s → AddsOnly v2 mid new s) → (Was : Office → Type 0) → ((s : Office) → KeepsState old s → Was s) → HasOurs old → Spares old new Was
+  spares adds Was was ours = spares_still old mid looks new honest Was (λ clean.
+      let it = found ours clean in
+      (it.0, was it.0 it.1, it.1.sound, adds it.0 it.2.means))
 
   module _ (made : (s : Office) → Means v2 mid s → Means v2 new s) where
     pub accepted : HasOurs old → HasCleanDisk new → (s : Office) × KeepsState old s × KeepsState new s

@@ -18,6 +18,7 @@ ghost use Rattle.sqlaudit.specs.Opened.{HasOurs, AreFirstNamed, AreNamed, OnlyLo
 ghost use Rattle.sqlstatements.specs.Pieces.{held};
 ghost use Rattle.sqlkeeper.specs.Emptying.{EmptiesStaged, HasNoneStaged};
 ghost use Rattle.sqlkeeper.specs.OneText.{one_text};
+ghost use Rattle.sqlkeeper.specs.Sparing.{Spares};
 ghost use Rattle.sqlkeeper.specs.Versions.{IsOfficeFile, IsRefusedFile};
 
 mod rolling;
@@ -178,6 +179,11 @@ impl<S: Alter> SqlKeeper<S> {
         ensures untouched { IfErr result (λ e. e.0 ≡ OpenFault.Exists → e.1 ≡ conn) }
         ensures kept { IsBare (state S.Store conn)
             → IfErr result (λ e. IsBare (state S.Store e.1)) }
+        ensures spares { neg_ℤ (pos 840) ≤ℤ office.east → office.east ≤ℤ pos 840 → IsKeyId id.now
+            → IsSecret secret.now
+            → IfErr result (λ e. Spares (state S.Store conn) (state S.Store e.1)
+            (λ t. ((state S.Store conn).now.schema ≡ s0)
+            × (t ≡ first_state office.east office.allowance id.now secret.now))) }
     {
         if !is_empty(conn.schema()) {
             return Err((OpenFault::Exists, conn));
@@ -261,6 +267,9 @@ impl<S: Alter> SqlKeeper<S> {
             → LeavesUntouched (state S.Store conn) (state S.Store e.1)) }
         ensures idle { HasOurs (state S.Store conn) → HasNoneStaged (state S.Store conn)
             → IfErr result (λ e. LeavesUntouched (state S.Store conn) (state S.Store e.1)) }
+        ensures spares { HasOurs (state S.Store conn)
+            → IfErr result (λ e. Spares (state S.Store conn) (state S.Store e.1)
+            (KeepsState (state S.Store conn))) }
     {
         match find(&mut conn, alloc) {
             Ok(Finding::Sound) => match empty_file(&mut conn) {
@@ -341,6 +350,9 @@ impl<S: Alter> SqlKeeper<S> {
         ensures idle { HasOurs (state S.Store conn) → HasNoneStaged (state S.Store conn)
             → (AreFirstNamed (state S.Store conn).now.schema → ⊥)
             → IfErr result (λ e. LeavesUntouched (state S.Store conn) (state S.Store e.1)) }
+        ensures spares { HasOurs (state S.Store conn)
+            → IfErr result (λ e. Spares (state S.Store conn) (state S.Store e.1)
+            (IsOfficeFile (state S.Store conn))) }
     {
         match find_either(&mut conn, alloc) {
             Ok(Found::Second) => match empty_file(&mut conn) {

@@ -1,9 +1,9 @@
-use Rattle.std.proofs.Common.{◌≡◌, ◌≤◌, ℕ, subst, w16, to_z, of_z, rules}
+use Rattle.std.proofs.Common.{◌≡◌, ◌≤◌, inl, inr, ℕ, refl, subst, w16, to_z, of_z, rules}
 use Rattle.sqlite.specs.Held.{state}
 use Rattle.sigv4.specs.Allowances.{most_allowance}
 use Rattle.boxes.specs.FirstState.{first_state}
 use Rattle.boxes.proofs.SoundFirstState.{sound_first_state}
-use Rattle.sqltables.specs.Schema.{v2}
+use Rattle.sqltables.specs.Schema.{s0, v2}
 use Rattle.sqltables.specs.Means.{Means, LeavesOnly, AddsOnly, IsBare}
 use Rattle.sqlkeeper.proofs.AtRest.{bare_of}
 use Rattle.sqlkeeper.proofs.Stays.{left_alone}
@@ -45,3 +45,18 @@ pub returns-in-Ok-create-clause-emptied : goal.returns-in-Ok-create-clause-empti
 returns-in-Ok-create-clause-emptied g c clean =
     let bare : IsBare (state g.S.Store c.args.conn) = bare_of (state g.S.Store c.args.conn) (search rules) (search rules) (c.is_autocommit.ensures.settled c.if-not-is_autocommit.false) in
     c.in-Ok-create.ensures.unstaged bare clean (c.in-Ok-create.ensures.opened clean).0
+
+pub returns-in-Err-clause-spares : goal.returns-in-Err-clause-spares
+returns-in-Err-clause-spares g c west east is_id is_secret =
+    let no_tables : (state g.S.Store c.args.conn).now.schema ≡ s0 = search rules in
+    record {
+      honest = c.create.ensures.honest;
+      crash = λ clean trees left. elim (returns-in-Err-clause-crash g c clean trees left) [
+        | inl was ↦ inl was
+        | inr means ↦ inr (
+          first_state c.args.office.east c.args.office.allowance c.args.id.now c.args.secret.now,
+          (no_tables, refl),
+          record { means = means; sound = sound_first_state c.args.office.east c.args.office.allowance c.args.id.now c.args.secret.now west east (few c.args.office.allowance c.seconds.result c.seconds.ensures.value c.seconds.ensures.bound) is_id is_secret },
+        )
+      ];
+    }
