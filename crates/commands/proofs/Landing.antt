@@ -5,10 +5,10 @@ use Rattle.boxes.specs.State.{State}
 use Rattle.keeper.specs.Bound.{StaysBy}
 use Rattle.keeper.specs.declared.keep.KeepFault.{KeepFault}
 use Rattle.keeper.specs.declared.keep.Keeper.{Ghosts}
-use Rattle.office.specs.Crashes.{AddsAsked, AddsStanding, Lasts, changed, unchanged, Survives, no_change, some_change}
+use Rattle.office.specs.Crashes.{AddsAsked, AddsStanding, Lasts, LastsThrough, changed, changed_once, never_changed, unchanged, Survives, no_change, some_change}
 use Rattle.office.specs.Crashes as crash
 use Rattle.office.specs.Premise.{WasKept}
-use Rattle.commands.specs.Asking.{Asked, nothing}
+use Rattle.commands.specs.Asking.{Asked, IsLeftBy, nothing}
 use Rattle.commands.specs.Listing.{Looks}
 use Rattle.commands.specs.Working.{Passes, StandsAlone}
 
@@ -43,6 +43,15 @@ module _ {K : Type 0} {k : Ghosts K} {old new : K} {s : State} (alone : StandsAl
   surviving_whole (some_change leaves whole) = whole
   surviving_whole (no_change same adds) = adds.whole alone.whole
 
+  -- what a crash leaves where several calls last
+  pub through : {after : State} → LastsThrough k old new s after → (t : State) → k.leaves new t → t ≡ after
+  through (changed_once only whole) t left = only t left
+  through (never_changed same adds) t left = standing adds t left ∙ sym same
+
+-- a crash leaves this state, whatever was asked
+pub is_left : (asked : Asked) {s t : State} → t ≡ s → IsLeftBy asked s t
+is_left asked same = record { left = inl same; lasts = λ none. same }
+
 -- a keeper of which a crash leaves nothing new
 pub stood : {K : Type 0} {k : Ghosts K} {old new : K} {Step : State → State → Asked → Type 0} → (k.is_honest new → k.is_honest old) → ((s : State) → k.means old s → k.means new s)
     → ((s : State) → k.means old s → k.is_honest new → AddsStanding k old new s) → ((s : State) → WasKept k old new s → Step s s nothing) → Passes k old new Step
@@ -53,7 +62,7 @@ stood honest same adds step = record {
     asked = nothing;
     left = record { means = same s kept.means; sound = kept.sound };
     step = step s kept;
-    crash = λ t left. inl (standing alone (adds s kept.means kept.is_honest) t left);
+    crash = λ t left. is_left nothing (standing alone (adds s kept.means kept.is_honest) t left);
     whole = standing_whole alone (adds s kept.means kept.is_honest);
   };
 }
@@ -75,7 +84,7 @@ unasked {k = k} {old = old} {new = new} same step = record {
     asked = nothing;
     left = record { means = subst (λ x. k.means x s) (sym same) kept.means; sound = kept.sound };
     step = step s;
-    crash = λ t left. inl (alone.alone t (subst (λ x. k.leaves x t) same left));
+    crash = λ t left. is_left nothing (alone.alone t (subst (λ x. k.leaves x t) same left));
     whole = subst k.leaves_whole (sym same) alone.whole;
   };
 }

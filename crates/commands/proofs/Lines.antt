@@ -12,7 +12,7 @@ use Rattle.commands.specs.Asking.{Asked}
 use Rattle.commands.specs.Asking as asking
 use Rattle.commands.specs.Obeying.{IsGiven}
 use Rattle.commands.specs.Working.{Passes, StandsAlone}
-use Rattle.commands.proofs.Landing.{adding, lasting, lasting_whole, standing, standing_whole}
+use Rattle.commands.proofs.Landing.{adding, is_left, lasting, lasting_whole, standing, standing_whole}
 
 module _ (T : Type 0) {K : Type 0} (k : Ghosts K) (old new : K) (s : State) (alone : StandsAlone k old s) (More : State → Type 0) where
   undone : (e : DeskFault) → UndoneLasts {T = T} k old new s More (Err e) → (t : State) → k.leaves new t → (t ≡ s) ⊎ More t
@@ -28,8 +28,8 @@ module _ (T : Type 0) {K : Type 0} (k : Ghosts K) (old new : K) (s : State) (alo
 -- if less is called a success
 pub given : (command : Option (List ℕ)) {Done Next : Type 0} → (Next → Done) → (s after : State) (asked : Asked) → IsGiven command Done s after asked → IsGiven command Next s after asked
 given None so s after asked (none, same, fails) = (none, same, λ next. fails (so next))
-given (Some text) so s after asked (is, inl done) = (is, inl done)
-given (Some text) so s after asked (is, inr (same, fails)) = (is, inr (same, λ next. fails (so next)))
+given (Some text) so s after asked (inl done) = inl done
+given (Some text) so s after asked (inr (is, same, fails)) = inr (is, same, λ next. fails (so next))
 
 -- a line was given to an office
 pub told : {T K : Type 0} (k : Ghosts K) (old new : K) (line : List ℕ) (r : Result T DeskFault) {Done : Type 0} → (k.is_honest new → k.is_honest old)
@@ -41,10 +41,10 @@ told k old new line (Ok x) honest obeys same crash fails = record {
       let (command, after, is, obeyed, left) = obeys s kept in
       record {
         after = after;
-        asked = asking.line line;
+        asked = asking.nothing;
         left = record { means = left.means.meant; sound = left.sound };
-        step = (refl, inl (record { command = command; tells = is; obeyed = obeyed }));
-        crash = λ t at. inl (lasting alone left.means.lasts t at);
+        step = inl (refl, record { command = command; tells = is; obeyed = obeyed });
+        crash = λ t at. is_left asking.nothing (lasting alone left.means.lasts t at);
         whole = lasting_whole alone left.means.lasts;
       };
 }
@@ -54,8 +54,8 @@ told {T = T} k old new line (Err e) honest obeys same crash fails = record {
     after = s;
     asked = asking.line line;
     left = record { means = same s kept.means; sound = kept.sound };
-    step = (refl, inr (refl, fails));
-    crash = undone T k old new s alone (IsToldBy s line) e (crash s kept);
+    step = inr (refl, refl, fails);
+    crash = λ t at. record { left = undone T k old new s alone (IsToldBy s line) e (crash s kept) t at; lasts = λ none. absurd none };
     whole = undone_whole T k old new s alone (IsToldBy s line) e (crash s kept);
   };
 }

@@ -4,4 +4,5 @@ pub mod Obeying
 pub mod Replaying
 pub mod Saying
 pub mod Serving
+pub mod Wording
 pub mod Working

@@ -15,10 +15,10 @@ abbrev pub IsCommandOf : Option (List ℕ) → List ℕ → Option (List ℕ) �
 IsCommandOf input argument command =
     (argument ≢ codes "-" → command ≡ Some argument) × (argument ≡ codes "-" → IfSome input (λ text. IsShortLineOf 4096 text command))
 
--- the line is done, or nothing is done and the command fails; without a line it fails
+-- the line is done for good, or nothing is done and the command fails; without a line it fails
 abbrev pub IsGiven : Option (List ℕ) → Type 0 → State → State → Asked → Type 0
 IsGiven None Done s after asked = (asked ≡ nothing) × (after ≡ s) × (Done → ⊥)
-IsGiven (Some text) Done s after asked = (asked ≡ line text) × (IsToldBy s text after ⊎ ((after ≡ s) × (Done → ⊥)))
+IsGiven (Some text) Done s after asked = ((asked ≡ nothing) × IsToldBy s text after) ⊎ ((asked ≡ line text) × (after ≡ s) × (Done → ⊥))
 
 -- the same, and if the command succeeds, its output says so
 abbrev pub TellsLine : {W : Type 0} → (W → Option (List ℕ)) → Option (List ℕ) → Type 0 → W → Option W → State → State → Asked → Type 0

@@ -1,5 +1,5 @@
 -- What a replay does to an office, and what it writes. Done: it succeeded.
-use Rattle.std.specs.Prelude.{◌≡◌, ℕ, pos, List, ◌∷◌, ◌++◌, length, codes, Option, Some}
+use Rattle.std.specs.Prelude.{◌≡◌, ◌≤◌, ℕ, pos, List, ◌∷◌, ◌++◌, length, codes, Option, Some}
 use Rattle.sigv4.specs.Credential.{IsKeyId, IsSecret}
 use Rattle.sigv4.specs.Dates.{WritesMoment}
 use Rattle.boxes.specs.FirstState.{first_state}
@@ -8,14 +8,15 @@ use Rattle.office.specs.Replays.{InTurn}
 use Rattle.tasks.specs.declared.task.Replay.{Replay}
 use Rattle.commands.specs.Asking.{Asked, connections}
 
--- Connections were answered in order, every message at the moment, and the output, which is handed back, has their answers. If
--- the replay succeeded, they are all of these n, and none ended by a fault.
+-- At most n connections were answered in order, every message at the moment, and the output, which is handed back, has their
+-- answers. If the replay succeeded, they are n, and none ended by a fault.
 pub record ReplaysAll {W : Type 0} (contents : W → Option (List ℕ)) (n moment : ℕ) (Done : Type 0) (old : W) (new : Option W)
     (s after : State) (asked : Asked) : Type 0 where
   pub out : W
   pub back : new ≡ Some out
   pub served : ℕ
   pub faults : ℕ
+  pub bound : served ≤ n
   pub turn : InTurn (contents old) (contents out) s after moment served faults
   pub were_asked : asked ≡ connections s turn.connections turn.moments after turn.run
   pub whole : Done → (served ≡ n) × (faults ≡ 0)

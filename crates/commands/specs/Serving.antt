@@ -1,6 +1,8 @@
 -- What a service does to an office. Done: it succeeded.
-use Rattle.std.specs.Prelude.{◌≡◌, ◌+◌, ◌++◌, ◌⊎◌, ℕ, zero, true, List, IsPermutation, length, map, Option, Some, Ok}
+use Rattle.std.specs.Prelude.{◌≡◌, ◌+◌, ◌++◌, ◌⊎◌, ℕ, zero, true, List, IsPermutation, length, map, Option, Ok, Err}
 use Rattle.std.specs.List.{AllByRecursion, count_by, sum_by}
+use Rattle.std.specs.declared.io.Error.{Error}
+use Rattle.std.specs.declared.net.socket_addr.SocketAddrV4.{SocketAddrV4}
 use Rattle.boxes.specs.State.{State}
 use Rattle.office.specs.Connections.{TellsMoments}
 use Rattle.office.specs.Crowds.{is_fault_end, standing_in}
@@ -17,6 +19,8 @@ use Rattle.sockets.specs.declared.serving.Outcome.{Outcome}
 use Rattle.sockets.specs.declared.serving.Served.{Served}
 use Rattle.commands.specs.Asking.{Asked, turns}
 use Rattle.commands.specs.Listing.{Looks}
+use Rattle.commands.specs.declared.serving.Ending.{Ending}
+use Rattle.commands.specs.declared.serving.Ending.TheVariants as ending_of
 
 -- Connections came, were served in turns from one state to the other, and went, as in `ServesCrowd`, which also says what the
 -- keeper makes of it.
@@ -57,23 +61,32 @@ pub record IsFine (outcome : Outcome) : Type 0 where
   pub accepted : outcome.refused ≡ 0
   pub faultless : outcome.faulty ≡ 0
 
-module _ {L S E C : Type 0} (listens : L → Type 0) (begins : C → Type 0) (gives : C → ℕ → C → Type 0) (told : L → List (Event S E) → Type 0) (are_ends : S → E → E → Type 0)
-    (remaining : Gathered E → Option (List ℕ)) (contents : Outbox E → Option (List ℕ)) (limits : Limits) where
-  -- A listener and a clock were made, and the service ended with these. If it succeeded, nothing was lacking.
-  pub record Listens (Done : Type 0) (served : Option (Served L E)) (clock : Option C) (s after : State) (asked : Asked) : Type 0 where
+-- the service failed, and what would have listened is handed back
+abbrev pub NeverListens : {N L E C : Type 0} → Type 0 → N → Ending N L E C → Type 0
+NeverListens Done outside ending = (Done → ⊥) × (ending ≡ ending_of.Idle outside)
+
+module _ {N L S E C : Type 0} (listens : SocketAddrV4 → L → Type 0) (begins : C → Type 0) (gives : C → ℕ → C → Type 0) (told : L → List (Event S E) → Type 0) (are_ends : S → E → E → Type 0)
+    (remaining : Gathered E → Option (List ℕ)) (contents : Outbox E → Option (List ℕ)) (address : SocketAddrV4) (limits : Limits) where
+  -- A listener and a clock were made, and the service ended with these. If it succeeded, the outcome is fine.
+  pub record Listens (Done : Type 0) (ending : Ending N L E C) (s after : State) (asked : Asked) : Type 0 where
     pub first : L
-    pub listened : listens first
+    pub listened : listens address first
     pub begun : C
     pub began : begins begun
     pub last : Served L E
-    pub is_last : served ≡ Some last
     pub end : C
-    pub is_end : clock ≡ Some end
+    pub is_last : ending ≡ ending_of.Served last end
     pub outcome : Outcome
     pub is_outcome : last.outcome ≡ Ok outcome
     pub serves : ServesFrom gives (told first) (told last.listener) are_ends remaining contents begun end limits.connections (at_least_one limits.«open») last.slots.items outcome s after asked
     pub fine : Done → IsFine outcome
 
-  -- it served, or nothing was done and there is a fault
-  abbrev pub MayServe : Type 0 → Option (Served L E) → Option C → State → State → Asked → Type 0
-  MayServe Done served clock s after asked = Listens Done served clock s after asked ⊎ (Looks s after asked × (Done → ⊥))
+  -- Nothing came: what would have listened is handed back, or a listener that listens, or one with the error of the loop.
+  abbrev pub NothingCame : N → Ending N L E C → Type 0
+  NothingCame outside (ending_of.Idle back) = back ≡ outside
+  NothingCame outside (ending_of.Listening listener) = listens address listener
+  NothingCame outside (ending_of.Served last end) = listens address last.listener × begins end × ((e : Error) × (last.outcome ≡ Err e))
+
+  -- it served, or it failed, nothing came and nothing was done
+  abbrev pub MayServe : Type 0 → N → Ending N L E C → State → State → Asked → Type 0
+  MayServe Done outside ending s after asked = Listens Done ending s after asked ⊎ (Looks s after asked × (Done → ⊥) × NothingCame outside ending)

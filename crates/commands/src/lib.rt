@@ -29,6 +29,6 @@ pub use manifesting::PublishWork;
 pub use outside::Outside;
 pub use replaying::{ReplayWork, replay_memory};
 pub use secrets::{check_secret, read_secret_file};
-pub use serving::{ServeWork, Service, Session, read_service, unserved};
+pub use serving::{Ending, ServeWork, Service, Session, read_service, unserved};
 pub use signing::{KeyWork, OfficeKey, sign_by_file};
 pub use work::{Done, OfficeWork};

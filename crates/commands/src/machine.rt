@@ -24,14 +24,18 @@ impl<
 
     type Clock = WatchingClock<'a, R>;
 
-    ghost listens = { λ _. ⊤ };
+    ghost listens = { λ _ _. ⊤ };
 
     ghost begins = { λ _. ⊤ };
 
-    fn listen(&self, address: SocketAddrV4) -> Option<TcpListener> {
-        let listener = TcpListener::bind(self.rt, SocketAddr::V4(address)).ok()?;
-        send_at_once(&listener).ok()?;
-        Some(listener)
+    fn listen(self, address: SocketAddrV4) -> Result<TcpListener, Self> {
+        let Ok(listener) = TcpListener::bind(self.rt, SocketAddr::V4(address)) else {
+            return Err(self);
+        };
+        match send_at_once(&listener) {
+            Ok(()) => Ok(listener),
+            Err(_) => Err(self),
+        }
     }
 
     fn clock(&self, file: &str) -> Result<WatchingClock<'a, R>, AllocError> {

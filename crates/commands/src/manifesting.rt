@@ -5,7 +5,7 @@ ghost use Rattle.commands.specs.Working.{Passes};
 
 use crate::faults::Fault;
 use crate::outside::Outside;
-use crate::serving::{Service, Session, serve_at, unserved};
+use crate::serving::{Ending, Service, Session, serve_at, unserved};
 use crate::work::OfficeWork;
 use cache::CachedKeeper;
 use keeper::Keeper;
@@ -50,23 +50,23 @@ pub struct PublishWork<'w, W: Drop, E: Drop, N: Drop> {
 
 impl<W: Write + Drop, E: Write + Drop, N: Outside + Drop> OfficeWork for PublishWork<'_, W, E, N> {
     ghost use Rattle.std.specs.Prelude.{IsOk};
-    ghost use Rattle.commands.specs.Serving.{MayServe};
+    ghost use Rattle.commands.specs.Serving.{MayServe, NeverListens};
 
-    type Gain = Session<N::Listener, <N::Listener as Listener>::End, N::Clock>;
+    type Gain = Session<N, N::Listener, <N::Listener as Listener>::End, N::Clock>;
 
     ghost step = { λ work gain. MayServe N.listens N.begins N.Clock.now_gives N.Listener.told
         N.Listener.are_ends ⟦<Gathered<<N::Listener as Listener>::End> as Read>⟧.remaining
-        ⟦<Outbox<<N::Listener as Listener>::End> as Write>⟧.contents work.service.limits
-        (IsOk gain.result) gain.served gain.clock };
+        ⟦<Outbox<<N::Listener as Listener>::End> as Write>⟧.contents work.service.address
+        work.service.limits (IsOk gain.result) work.outside gain.ending };
 
-    ghost idle = { λ work gain. IsOk gain.result → ⊥ };
+    ghost idle = { λ work gain. NeverListens (IsOk gain.result) work.outside gain.ending };
 
     fn run<K: Rolls>(
         self,
         rt: &HostRuntime,
         keeper: K,
     ) -> (
-        Session<N::Listener, <N::Listener as Listener>::End, N::Clock>,
+        Session<N, N::Listener, <N::Listener as Listener>::End, N::Clock>,
         K,
     ) {
         let keeper = CachedKeeper::new(rt.alloc(), keeper);
@@ -77,8 +77,8 @@ impl<W: Write + Drop, E: Write + Drop, N: Outside + Drop> OfficeWork for Publish
     fn refuse(
         self,
         fault: Fault,
-    ) -> Session<N::Listener, <N::Listener as Listener>::End, N::Clock> {
-        unserved(fault)
+    ) -> Session<N, N::Listener, <N::Listener as Listener>::End, N::Clock> {
+        unserved(fault, Ending::Idle(self.outside))
     }
 }
 
@@ -90,14 +90,14 @@ fn serve_published<K: Keeper, W: Write + Drop, E: Write + Drop, N: Outside + Dro
     keeper: K,
     work: PublishWork<'_, W, E, N>,
 ) -> (
-    Session<N::Listener, <N::Listener as Listener>::End, N::Clock>,
+    Session<N, N::Listener, <N::Listener as Listener>::End, N::Clock>,
     K,
 )
     ensures { Passes K.Keeper keeper result.1
         (MayServe N.listens N.begins N.Clock.now_gives N.Listener.told
         N.Listener.are_ends ⟦<Gathered<<N::Listener as Listener>::End> as Read>⟧.remaining
-        ⟦<Outbox<<N::Listener as Listener>::End> as Write>⟧.contents work.entry.service.limits
-        (IsOk result.0.result) result.0.served result.0.clock) }
+        ⟦<Outbox<<N::Listener as Listener>::End> as Write>⟧.contents work.entry.service.address
+        work.entry.service.limits (IsOk result.0.result) work.entry.outside result.0.ending) }
 {
     let PublishWork {
         service,
@@ -107,18 +107,18 @@ fn serve_published<K: Keeper, W: Write + Drop, E: Write + Drop, N: Outside + Dro
         outside,
     } = work;
     let Ok(part) = format!(in rt.alloc(); "{}.part", manifest) else {
-        return (unserved(Fault::OutOfMemory), keeper);
+        return (unserved(Fault::OutOfMemory, Ending::Idle(outside)), keeper);
     };
     let Ok(file) = fs::create(rt, part.as_str()) else {
         let _ = writeln!(err, "drop: {}", Fault::CannotPublish);
         let mut office = Office::new(rt.alloc(), keeper);
-        let session = serve_at(rt, &mut office, &service, &outside, &mut out);
+        let session = serve_at(rt, &mut office, &service, outside, &mut out);
         return (published(session, false), office.keeper);
     };
     let publisher = Publisher::begin(rt.alloc(), keeper, ManifestFile { file }, err);
     let is_placed = publisher.is_whole() && fs::rename(rt, part.as_str(), manifest).is_ok();
     let mut office = Office::new(rt.alloc(), unless_placed(publisher, is_placed));
-    let session = serve_at(rt, &mut office, &service, &outside, &mut out);
+    let session = serve_at(rt, &mut office, &service, outside, &mut out);
     let is_whole = office.keeper.is_whole();
     (published(session, is_whole), office.keeper.into_inner())
 }
@@ -137,16 +137,14 @@ fn unless_placed<K: Keeper, S: Sheet + Drop, E: Write + Drop>(
 }
 
 // The same session. It fails if the manifest is not whole.
-fn published<L, E, C>(session: Session<L, E, C>, is_whole: bool) -> Session<L, E, C>
+fn published<N, L, E, C>(session: Session<N, L, E, C>, is_whole: bool) -> Session<N, L, E, C>
     ensures done { IsOk result.result → IsOk session.result }
     ensures whole { IsOk result.result → IsTrue is_whole }
-    ensures served { result.served ≡ session.served }
-    ensures clock { result.clock ≡ session.clock }
+    ensures ending { result.ending ≡ session.ending }
 {
     Session {
         result: unless_lacking(session.result, is_whole),
-        served: session.served,
-        clock: session.clock,
+        ending: session.ending,
     }
 }
 

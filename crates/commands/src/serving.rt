@@ -1,6 +1,8 @@
 //! `drop serve`: serves an office at an address.
-ghost use Rattle.std.specs.Prelude.{IsOk, IsOkAnd};
+ghost use Rattle.std.specs.Prelude.{◌≡◌, IfOk, IfSome, IsOk, IsOkAnd};
+ghost use Rattle.std.specs.Net.Grammar.{IsSocketV4Text};
 ghost use Rattle.commands.specs.Serving.{IsFine, MayServe};
+ghost use Rattle.commands.specs.Wording.{IsPatience, IsServiceOf};
 ghost use Rattle.commands.specs.Working.{Passes};
 
 use crate::arguments::Argument;
@@ -33,15 +35,24 @@ pub struct Service<'a> {
     pub limits: Limits,
 }
 
-/// What a service gives: its result, and its listener, its clock and its connections as they were last, if it listened.
+/// How a service ended, and what is left of what it took from outside.
 #[derive(Drop)]
-pub struct Session<L, E, C> {
+pub enum Ending<N, L, E, C> {
+    /// It never listened, and this would have listened.
+    Idle(N),
+    /// It listened, and ended before it took a connection.
+    Listening(L),
+    /// It served: the listener, the connections that are left and the outcome, and the clock.
+    Served(Served<L, E>, C),
+}
+
+/// What a service gives: its result, and how it ended.
+#[derive(Drop)]
+pub struct Session<N, L, E, C> {
     /// The result.
     pub result: Result<(), Fault>,
-    /// The listener, the connections that are left, and the outcome.
-    pub served: Option<Served<L, E>>,
-    /// The clock.
-    pub clock: Option<C>,
+    /// How it ended.
+    pub ending: Ending<N, L, E, C>,
 }
 
 /// A service, the output, which gets the address, and what the service takes from outside.
@@ -57,23 +68,23 @@ pub struct ServeWork<'w, W: Drop, N: Drop> {
 
 impl<W: Write + Drop, N: Outside + Drop> OfficeWork for ServeWork<'_, W, N> {
     ghost use Rattle.std.specs.Prelude.{IsOk};
-    ghost use Rattle.commands.specs.Serving.{MayServe};
+    ghost use Rattle.commands.specs.Serving.{MayServe, NeverListens};
 
-    type Gain = Session<N::Listener, <N::Listener as Listener>::End, N::Clock>;
+    type Gain = Session<N, N::Listener, <N::Listener as Listener>::End, N::Clock>;
 
     ghost step = { λ work gain. MayServe N.listens N.begins N.Clock.now_gives N.Listener.told
         N.Listener.are_ends ⟦<Gathered<<N::Listener as Listener>::End> as Read>⟧.remaining
-        ⟦<Outbox<<N::Listener as Listener>::End> as Write>⟧.contents work.service.limits
-        (IsOk gain.result) gain.served gain.clock };
+        ⟦<Outbox<<N::Listener as Listener>::End> as Write>⟧.contents work.service.address
+        work.service.limits (IsOk gain.result) work.outside gain.ending };
 
-    ghost idle = { λ work gain. IsOk gain.result → ⊥ };
+    ghost idle = { λ work gain. NeverListens (IsOk gain.result) work.outside gain.ending };
 
     fn run<K: Rolls>(
         self,
         rt: &HostRuntime,
         keeper: K,
     ) -> (
-        Session<N::Listener, <N::Listener as Listener>::End, N::Clock>,
+        Session<N, N::Listener, <N::Listener as Listener>::End, N::Clock>,
         K,
     ) {
         let ServeWork {
@@ -82,30 +93,28 @@ impl<W: Write + Drop, N: Outside + Drop> OfficeWork for ServeWork<'_, W, N> {
             outside,
         } = self;
         let mut office = Office::new(rt.alloc(), CachedKeeper::new(rt.alloc(), keeper));
-        let session = serve_at(rt, &mut office, &service, &outside, &mut out);
+        let session = serve_at(rt, &mut office, &service, outside, &mut out);
         (session, office.keeper.into_inner())
     }
 
     fn refuse(
         self,
         fault: Fault,
-    ) -> Session<N::Listener, <N::Listener as Listener>::End, N::Clock> {
-        unserved(fault)
+    ) -> Session<N, N::Listener, <N::Listener as Listener>::End, N::Clock> {
+        unserved(fault, Ending::Idle(self.outside))
     }
 }
 
 /// Reads the arguments. Fails if one is malformed.
-pub fn read_service<'a>(words: &Serve<'a>) -> Result<Service<'a>, Fault> {
+pub fn read_service<'a>(words: &Serve<'a>) -> Result<Service<'a>, Fault>
+    ensures { IfOk result (λ service. IsServiceOf words.now service.address service.limits) }
+{
     let address = read_address(words.listen).ok_or(Fault::MalformedValue(Argument::Listen))?;
     let Ok(connections) = words.connections.parse::<u64>() else {
         return Err(Fault::MalformedValue(Argument::Connections));
     };
     let Ok(seconds) = words.patience.parse::<u64>() else {
         return Err(Fault::MalformedValue(Argument::Patience));
-    };
-    let patience = match seconds {
-        0 => None,
-        _ => Some(Duration::from_secs(seconds)),
     };
     let Ok(open) = words.open.parse::<usize>() else {
         return Err(Fault::MalformedValue(Argument::Open));
@@ -116,14 +125,26 @@ pub fn read_service<'a>(words: &Serve<'a>) -> Result<Service<'a>, Fault> {
         address,
         limits: Limits {
             connections,
-            patience,
+            patience: patience_of(seconds),
             open,
         },
     })
 }
 
+// How long a connection may be silent. After 0 seconds none is too long.
+fn patience_of(seconds: u64) -> Option<Duration>
+    ensures { IsPatience seconds result }
+{
+    match seconds {
+        0 => None,
+        _ => Some(Duration::from_secs(seconds)),
+    }
+}
+
 // An address `a.b.c.d:port`, without leading zeros in any number.
-fn read_address(text: &str) -> Option<SocketAddrV4> {
+fn read_address(text: &str) -> Option<SocketAddrV4>
+    ensures { IfSome result (IsSocketV4Text text.now) }
+{
     let (_, port) = text.split_once(':')?;
     if port.len() > 1 && port.starts_with('0') {
         return None;
@@ -131,49 +152,49 @@ fn read_address(text: &str) -> Option<SocketAddrV4> {
     SocketAddrV4::parse_ascii(text.as_bytes()).ok()
 }
 
-/// What a service gives that never listened.
-pub fn unserved<L, E, C>(fault: Fault) -> Session<L, E, C>
-    ensures { IsOk result.result → ⊥ }
+/// What a service gives that took no connection.
+pub fn unserved<N, L, E, C>(fault: Fault, ending: Ending<N, L, E, C>) -> Session<N, L, E, C>
+    ensures fault { IsOk result.result → ⊥ }
+    ensures ending { result.ending ≡ ending }
 {
     Session {
         result: Err(fault),
-        served: None,
-        clock: None,
+        ending,
     }
 }
 
 /// Listens at the address, says so on `out`, and serves the connections. Warns on standard error if the office file is too
 /// large for the memory.
-pub(crate) fn serve_at<K: Keeper, N: Outside, W: Write>(
+pub(crate) fn serve_at<K: Keeper, N: Outside + Drop, W: Write>(
     rt: &HostRuntime,
     office: &mut Office<K>,
     service: &Service<'_>,
-    outside: &N,
+    outside: N,
     out: &mut W,
-) -> Session<N::Listener, <N::Listener as Listener>::End, N::Clock>
+) -> Session<N, N::Listener, <N::Listener as Listener>::End, N::Clock>
     ensures { Passes K.Keeper office.old.keeper office.new.keeper
         (MayServe N.listens N.begins N.Clock.now_gives N.Listener.told
         N.Listener.are_ends ⟦<Gathered<<N::Listener as Listener>::End> as Read>⟧.remaining
-        ⟦<Outbox<<N::Listener as Listener>::End> as Write>⟧.contents service.now.limits
-        (IsOk result.result) result.served result.clock) }
+        ⟦<Outbox<<N::Listener as Listener>::End> as Write>⟧.contents service.now.address
+        service.now.limits (IsOk result.result) outside result.ending) }
 {
-    let Some(listener) = outside.listen(service.address) else {
-        return unserved(Fault::CannotListen);
-    };
     let Ok(poll) = Poll::new(rt) else {
-        return unserved(Fault::CannotListen);
+        return unserved(Fault::CannotListen, Ending::Idle(outside));
     };
     let Ok(mut clock) = outside.clock(service.file) else {
-        return unserved(Fault::OutOfMemory);
+        return unserved(Fault::OutOfMemory, Ending::Idle(outside));
+    };
+    let listener = match outside.listen(service.address) {
+        Ok(listener) => listener,
+        Err(outside) => return unserved(Fault::CannotListen, Ending::Idle(outside)),
     };
     if writeln!(out, "listening on {}", service.listen).is_err() || out.flush().is_err() {
-        return unserved(Fault::CannotWrite);
+        return unserved(Fault::CannotWrite, Ending::Listening(listener));
     }
     let served = serve(rt, poll, office, listener, service.limits, &mut clock);
     Session {
         result: result_of(&served.outcome),
-        served: Some(served),
-        clock: Some(clock),
+        ending: Ending::Served(served, clock),
     }
 }
 

@@ -5,20 +5,20 @@ use Rattle.commands.proofs.Landing.{looks, more, unasked, within}
 use Rattle.commands.proofs.manifesting.serve_published.Goals as goal
 
 pub returns-in_default : goal.returns-in_default
-returns-in_default g c = unasked refl (λ s. inr (looks s, c.unserved.ensures))
+returns-in_default g c = rw c.unserved.ensures.ending (unasked refl (λ s. inr (looks s, c.unserved.ensures.fault, refl)))
 
 pub returns-in_default-create : goal.returns-in_default-create
 returns-in_default-create g c =
-    rw (c.published.ensures.served, c.published.ensures.clock, ← c.new-office.ensures)
-    (more (less _ _ _ _ _ _ _ _ _ _ _ _ c.published.ensures.done) c.serve_at-session.ensures)
+    rw (c.published.ensures.ending, ← c.new-office.ensures)
+    (more (less _ _ _ _ _ _ _ _ _ _ _ _ _ c.published.ensures.done) c.serve_at-session.ensures)
 
 pub returns : goal.returns
 returns g c =
     let k = g.K.Keeper in
     let (told, stays, whole) = c.begin-publisher.ensures.stays in
     let same = ap (λ (p : Publisher g.row.K.Denot _ _). p.keeper) c.new-office-2.ensures ∙ c.unless_placed.ensures in
-    rw (c.into_inner.ensures, c.published-2.ensures.served, c.published-2.ensures.clock)
-    (more (less _ _ _ _ _ _ _ _ _ _ _ _ c.published-2.ensures.done) (within
+    rw (c.into_inner.ensures, c.published-2.ensures.ending)
+    (more (less _ _ _ _ _ _ _ _ _ _ _ _ _ c.published-2.ensures.done) (within
     (record {
       honest = λ honest. honest;
       before = λ honest. stays.honest (subst k.is_honest same honest);
