@@ -10,7 +10,10 @@ use Rattle.dropoffice.specs.declared.opening.Left.{Left}
 use Rattle.dropoffice.specs.declared.opening.Left.TheVariants as left
 
 -- what a crash leaves is also like this
-pub crash_more : {D : Type 0} {g : disk.Ghosts D} (rest : Left D g) (Like More : Office → Type 0) → ((t : Office) → Like t → More t) → MayCrashTo rest Like → MayCrashTo rest More
+pub crash_more : {F D : Type 0} {g : disk.Ghosts D} (rest : Left F D g) (Like More : Office → Type 0) → ((t : Office) → Like t → More t) → MayCrashTo rest Like → MayCrashTo rest More
+crash_more (left.Unopened start) Like More so crash = absurd crash
+crash_more left.Lost Like More so crash = absurd crash
+crash_more (left.Refused refused) Like More so crash = absurd crash
 crash_more (left.Looked conn) Like More so crash = λ trees may. let (t, keep, like) = crash trees may in (t, keep, so t like)
 crash_more (left.Closed files) Like More so crash = λ image may. let (t, keep, like) = crash image may in (t, keep, so t like)
 crash_more (left.Unclosed store) Like More so crash = λ trees may. let (t, keep, like) = crash trees may in (t, keep, so t like)

@@ -1,5 +1,5 @@
 -- What is left of the file of a command.
-use Rattle.std.proofs.Common.{◌≡◌, ◌∙◌, ⊎_elim, inl, inr, sym, subst, ap, ℕ, List}
+use Rattle.std.proofs.Common.{◌≡◌, ◌∙◌, ⊎_elim, refl, sym, subst, ap, ℕ, List}
 use Rattle.sqlite_disk.specs.declared.Disk as disk
 use Rattle.sqlite.specs.Effect.{Database, IsDatabase}
 use Rattle.sqlite.specs.State.{State, HasCleanDisk, Opens, IsLive}
@@ -11,17 +11,30 @@ use Rattle.boxes.specs.State.{State as Office}
 use Rattle.boxes.specs.declared.rows.OfficeRow.{OfficeRow}
 use Rattle.sqltables.specs.Kept.{KeepsState, LeavesStates, MayLeave}
 use Rattle.sqltables.specs.Schema.{s0}
-use Rattle.sqlkeeper.specs.Versions.{KeepsFirst}
 use Rattle.tasks.specs.declared.task.Init.{Init}
 use Rattle.commands.specs.Asking.{Asked, IsLeftBy}
 use Rattle.dropoffice.specs.Holding.{MigratedOn, RanOn}
 use Rattle.dropoffice.specs.Leaving.{IsLeftOf, LeavesOffice, MayCrashTo, Migrated, Ran}
-use Rattle.dropoffice.specs.Performing.{IsFirstRow, Made}
+use Rattle.dropoffice.specs.Performing.{HoldsBare, IsFirstRow, Made}
 use Rattle.dropoffice.specs.declared.opening.Left.{Left}
+use Rattle.commands.proofs.Landing.{is_left}
 use Rattle.dropoffice.proofs.Crashing.{crash_more}
-use Rattle.dropoffice.proofs.Ended.{held, held_first}
+use Rattle.dropoffice.proofs.Ended.{held, held_either}
 
-module _ {D : Type 0} {g : disk.Ghosts D} (image : Image) (rest : Left D g) (old new : State) (opened : HasCleanDisk old → Opens old × IsLive old) (found : HasCleanDisk old → FindsIn image old)
+-- the files held no tables
+pub bare_before : (image : Image) (old : State) → (HasCleanDisk old → Opens old × IsLive old) → (HasCleanDisk old → FindsIn image old) → HasCleanDisk old → old.now.schema ≡ s0 → HoldsBare image
+bare_before image old opened found early bare =
+    let (opens, live) = opened early in
+    let at = found early in
+    let schema = ap (λ (d : Database). d.schema) (sym opens.clean) ∙ bare in
+    record {
+      trees = old.committed.trees;
+      found = at.reads;
+      holds = at.holds;
+      bare = subst (λ (schema : Schema). IsDatabase (record { schema = schema; trees = old.committed.trees })) schema (live opens.is_open).1;
+    }
+
+module _ {F D : Type 0} {g : disk.Ghosts D} (image : Image) (rest : Left F D g) (old new : State) (opened : HasCleanDisk old → Opens old × IsLive old) (found : HasCleanDisk old → FindsIn image old)
     (leaves : (s : Office) → KeepsState new s → LeavesOffice rest s) (crash : (s : Office) → KeepsState new s → LeavesStates new → MayCrashTo rest (IsLeftOf new s)) where
   pub ran_over : {Step : Office → Office → Asked → Type 0} → RanOn old new Step → Ran image rest Step
   ran_over ran = record {
@@ -31,7 +44,7 @@ module _ {D : Type 0} {g : disk.Ghosts D} (image : Image) (rest : Left D g) (old
     held = held image old opened found ran.early ran.before ran.kept;
     means = leaves ran.after ran.keeps;
     step = ran.step;
-    crash = crash_more rest (IsLeftOf new ran.after) (IsLeftBy ran.asked ran.after) (λ t left. ⊎_elim (λ (same : t ≡ ran.after). inl same) (ran.crash t) left) (crash ran.after ran.keeps ran.whole);
+    crash = crash_more rest (IsLeftOf new ran.after) (IsLeftBy ran.asked ran.after) (λ t left. ⊎_elim (λ (same : t ≡ ran.after). is_left ran.asked same) (ran.crash t) left) (crash ran.after ran.keeps ran.whole);
   }
 
   -- a crash leaves this state alone
@@ -41,7 +54,7 @@ module _ {D : Type 0} {g : disk.Ghosts D} (image : Image) (rest : Left D g) (old
   pub migrated_over : MigratedOn old new → Migrated image rest
   migrated_over made = record {
     office = made.office;
-    held = ⊎_elim (λ (first : KeepsFirst old made.office). inl (held_first image old opened found made.early made.office first)) (λ (second : KeepsState old made.office). inr (held image old opened found made.early made.office second)) made.kept;
+    held = held_either image old opened found made.early made.office made.kept;
     means = leaves made.office made.keeps;
     crash = only made.office made.keeps made.whole made.crash;
   }
@@ -50,19 +63,11 @@ module _ {D : Type 0} {g : disk.Ghosts D} (image : Image) (rest : Left D g) (old
       → KeepsState new (first_state office.east office.allowance words.clerk.now bytes) → LeavesStates new
       → ((t : Office) → MayLeave new t → t ≡ first_state office.east office.allowance words.clerk.now bytes) → Made words image rest
   made_over words office bytes first early bare keeps whole alone =
-      let (opens, live) = opened early in
-      let at = found early in
-      let schema = ap (λ (d : Database). d.schema) (sym opens.clean) ∙ bare in
+      let s = first_state office.east office.allowance words.clerk.now bytes in
       record {
-        held = record {
-          trees = old.committed.trees;
-          found = at.reads;
-          holds = at.holds;
-          bare = subst (λ (schema : Schema). IsDatabase (record { schema = schema; trees = old.committed.trees })) schema (live opens.is_open).1;
-        };
-        office = office;
-        bytes = bytes;
-        first = first;
-        means = leaves (first_state office.east office.allowance words.clerk.now bytes) keeps;
-        crash = only (first_state office.east office.allowance words.clerk.now bytes) keeps whole alone;
+        held = bare_before image old opened found early bare;
+        office = s;
+        first = record { office = office; bytes = bytes; first = first; is = refl };
+        means = leaves s keeps;
+        crash = only s keeps whole alone;
       }

@@ -1,34 +1,33 @@
 -- The clauses of commands where less is called a success, or more is known of a step.
-use Rattle.std.proofs.Common.{◌≡◌, ◌⊎◌, ⊎_elim, inl, inr, ℕ, List, Option, Some, None}
-use Rattle.std.specs.Prelude.{IfSome}
+use Rattle.std.proofs.Common.{◌⊎◌, ⊎_elim, inl, inr, ℕ, List, Option}
+use Rattle.std.specs.declared.net.socket_addr.SocketAddrV4.{SocketAddrV4}
 use Rattle.sqlite_disk.specs.declared.Disk as disk
 use Rattle.sqlite.specs.Recovery.{Image}
 use Rattle.boxes.specs.State.{State as Office}
-use Rattle.office.specs.Crashes.{IsToldBy}
 use Rattle.sockets.specs.Listening.{Event}
-use Rattle.sockets.specs.declared.serving.Served.{Served}
 use Rattle.tasks.specs.declared.task.Desk.{Desk}
 use Rattle.tasks.specs.declared.task.Listing.{Listing}
 use Rattle.tasks.specs.declared.task.Replay.{Replay}
+use Rattle.tasks.specs.declared.task.Serve.{Serve}
 use Rattle.tasks.specs.declared.task.Task.{Task}
 use Rattle.tasks.specs.declared.task.Task.TheVariants as task
 use Rattle.wire.specs.declared.gathered.Gathered.{Gathered}
 use Rattle.wire.specs.declared.outbox.Outbox.{Outbox}
 use Rattle.commands.specs.Asking.{Asked}
 use Rattle.commands.specs.Listing.{Compares, Looks, Writes, IsManifest}
-use Rattle.commands.specs.Obeying.{IsGiven, done_line}
-use Rattle.commands.specs.Saying.{Says}
+use Rattle.commands.specs.Obeying.{done_line}
+use Rattle.commands.specs.Saying.{HandsBack, Says}
+use Rattle.commands.specs.Serving.{NeverListens}
+use Rattle.commands.specs.declared.serving.Ending.{Ending}
 use Rattle.commands.proofs.Crowds.{less}
-use Rattle.dropoffice.specs.Leaving.{IsCleanLeft, IsUntouched, Migrated, Ran}
-use Rattle.dropoffice.specs.Performing.{Answers, Commands, Lists, MayMigrate, MayRun, Performs, Serves}
+use Rattle.commands.proofs.Lines.{given}
+use Rattle.dropoffice.specs.Holding.{HoldsEither, HoldsState, ShowsHeld}
+use Rattle.dropoffice.specs.Leaving.{IsSpared, Migrated, Ran}
+use Rattle.dropoffice.specs.Performing.{Answers, Commands, Lists, MayMigrate, MayRun, Performs, Serves, Unless}
 use Rattle.dropoffice.specs.declared.opening.Left.{Left}
 
-module _ {D : Type 0} {g : disk.Ghosts D} where
-  pub lift : (left : Option (Left D g)) (P Q : Left D g → Type 0) → ((rest : Left D g) → P rest → Q rest) → IfSome left (λ rest. IsCleanLeft rest → P rest) → IfSome left (λ rest. IsCleanLeft rest → Q rest)
-  lift None P Q so it = tt
-  lift (Some rest) P Q so it = λ clean. so rest (it clean)
-
-  pub ran_more : (Step Next : Office → Office → Asked → Type 0) → ((s after : Office) (asked : Asked) → Step s after asked → Next s after asked) → (image : Image) (rest : Left D g) → Ran image rest Step → Ran image rest Next
+module _ {F D : Type 0} {g : disk.Ghosts D} where
+  ran_more : (Step Next : Office → Office → Asked → Type 0) → ((s after : Office) (asked : Asked) → Step s after asked → Next s after asked) → (image : Image) (rest : Left F D g) → Ran image rest Step → Ran image rest Next
   ran_more Step Next so image rest ran = record {
     before = ran.before;
     after = ran.after;
@@ -39,24 +38,25 @@ module _ {D : Type 0} {g : disk.Ghosts D} where
     crash = ran.crash;
   }
 
-  pub may_run : (Step Next : Office → Office → Asked → Type 0) (Idle Done : Type 0) → ((s after : Office) (asked : Asked) → Step s after asked → Next s after asked) → (Idle → Done → ⊥) → (image : Image) (rest : Left D g)
-      → Ran image rest Step ⊎ (Idle × IsUntouched image rest) → MayRun image rest Done Next
-  may_run Step Next Idle Done so fails image rest it =
-      ⊎_elim (λ (ran : Ran image rest Step). inl (ran_more Step Next so image rest ran)) (λ (idle : Idle × IsUntouched image rest). inr (fails idle.0, idle.1)) it
+  -- another step, and another end where none was made
+  pub run_more : (Step Next : Office → Office → Asked → Type 0) (Idle Other : Type 0) → ((s after : Office) (asked : Asked) → Step s after asked → Next s after asked) → (Idle → Other)
+      → (image : Image) (start : F) (rest : Left F D g) → MayRun image start rest Idle Step → MayRun image start rest Other Next
+  run_more Step Next Idle Other so fails image start rest it = ⊎_elim
+      (λ (ran : Ran image rest Step). inl (ran_more Step Next so image rest ran))
+      (λ (idle : Idle × IsSpared image start (ShowsHeld image (HoldsState image)) rest). inr (fails idle.0, idle.1))
+      it
 
-  -- what work gave is what the command says
-  pub run_over : (left : Option (Left D g)) (Step Next : Office → Office → Asked → Type 0) (Idle Done : Type 0) → ((s after : Office) (asked : Asked) → Step s after asked → Next s after asked) → (Idle → Done → ⊥) → (image : Image)
-      → IfSome left (λ rest. IsCleanLeft rest → Ran image rest Step ⊎ (Idle × IsUntouched image rest)) → IfSome left (λ rest. IsCleanLeft rest → MayRun image rest Done Next)
-  run_over left Step Next Idle Done so fails image it =
-      lift left (λ rest. Ran image rest Step ⊎ (Idle × IsUntouched image rest)) (λ rest. MayRun image rest Done Next) (may_run Step Next Idle Done so fails image) it
+pub unless_more : {Case This That Other : Type 0} → (That → Other) → Unless Case This That → Unless Case This Other
+unless_more more it = (it.0, λ other. more (it.1 other))
 
 module _ {Done Next : Type 0} (so : Next → Done) where
-  given_less : (command : Option (List ℕ)) (s after : Office) (asked : Asked) → IsGiven command Done s after asked → IsGiven command Next s after asked
-  given_less None s after asked it = (it.0, it.1, λ next. it.2 (so next))
-  given_less (Some text) s after asked it =
-      (it.0, ⊎_elim (λ (told : IsToldBy s text after). inl told) (λ (idle : (after ≡ s) × (Done → ⊥)). inr (idle.0, λ next. idle.1 (so next))) it.1)
+  pub fails_less : {Made Spared : Type 0} → Made ⊎ ((Done → ⊥) × Spared) → Made ⊎ ((Next → ⊥) × Spared)
+  fails_less {Made = Made} {Spared = Spared} it = ⊎_elim (λ (made : Made). inl made) (λ (idle : (Done → ⊥) × Spared). inr ((λ next. idle.0 (so next)), idle.1)) it
 
   module _ {W : Type 0} (contents : W → Option (List ℕ)) (old : W) (new : Option W) where
+    pub back_less : HandsBack Done old new → HandsBack Next old new
+    back_less it = ((λ next. it.0 (so next)), it.1)
+
     says_less : (text : List ℕ) → Says contents text Done old new → Says contents text Next old new
     says_less text it = λ next. it (so next)
 
@@ -64,7 +64,7 @@ module _ {Done Next : Type 0} (so : Next → Done) where
     commands_less input words s after asked it = record {
       command = it.command;
       is_command = it.is_command;
-      tells = (given_less it.command s after asked it.tells.0, says_less done_line it.tells.1);
+      tells = (given it.command so s after asked it.tells.0, says_less done_line it.tells.1);
     }
 
     pub writes_less : (IsText : Office → List ℕ → Type 0) (s after : Office) (asked : Asked) → Writes contents IsText Done old new s after asked → Writes contents IsText Next old new s after asked
@@ -89,43 +89,57 @@ module _ {Done Next : Type 0} (so : Next → Done) where
         back = it.replays.back;
         served = it.replays.served;
         faults = it.replays.faults;
+        bound = it.replays.bound;
         turn = it.replays.turn;
         were_asked = it.replays.were_asked;
         whole = λ next. it.replays.whole (so next);
       };
     }
 
-  module _ {L S E C : Type 0} (listens : L → Type 0) (begins : C → Type 0) (gives : C → ℕ → C → Type 0) (told : L → List (Event S E) → Type 0) (are_ends : S → E → E → Type 0)
-      (remaining : Gathered E → Option (List ℕ)) (contents : Outbox E → Option (List ℕ)) (served : Option (Served L E)) (clock : Option C) where
-    pub serves_less : (s after : Office) (asked : Asked) → Serves listens begins gives told are_ends remaining contents Done served clock s after asked → Serves listens begins gives told are_ends remaining contents Next served clock s after asked
+  pub never_less : {N L E C : Type 0} (outside : N) (ending : Ending N L E C) → NeverListens Done outside ending → NeverListens Next outside ending
+  never_less outside ending it = ((λ next. it.0 (so next)), it.1)
+
+  module _ {N L S E C : Type 0} (listens : SocketAddrV4 → L → Type 0) (begins : C → Type 0) (gives : C → ℕ → C → Type 0) (told : L → List (Event S E) → Type 0) (are_ends : S → E → E → Type 0)
+      (remaining : Gathered E → Option (List ℕ)) (contents : Outbox E → Option (List ℕ)) (words : Serve) (outside : N) (ending : Ending N L E C) where
+    pub serves_less : (s after : Office) (asked : Asked) → Serves listens begins gives told are_ends remaining contents words Done outside ending s after asked
+        → Serves listens begins gives told are_ends remaining contents words Next outside ending s after asked
     serves_less s after asked it = record {
+      address = it.address;
       limits = it.limits;
-      serves = less listens begins gives told are_ends remaining contents it.limits Done Next served clock so s after asked it.serves;
+      named = it.named;
+      serves = less listens begins gives told are_ends remaining contents it.address it.limits Done Next outside ending so s after asked it.serves;
     }
 
-  module _ {D : Type 0} {g : disk.Ghosts D} (image : Image) (rest : Left D g) where
-    pub runs_less : (Step After : Office → Office → Asked → Type 0) → ((s after : Office) (asked : Asked) → Step s after asked → After s after asked) → MayRun image rest Done Step → MayRun image rest Next After
-    runs_less Step After more it =
-        ⊎_elim (λ (ran : Ran image rest Step). inl (ran_more Step After more image rest ran)) (λ (idle : (Done → ⊥) × IsUntouched image rest). inr (λ next. idle.0 (so next), idle.1)) it
+  module _ {F D : Type 0} {g : disk.Ghosts D} (image : Image) (start : F) (rest : Left F D g) where
+    pub looks_less : MayRun image start rest (Done → ⊥) Looks → MayRun image start rest (Next → ⊥) Looks
+    looks_less it = run_more Looks Looks (Done → ⊥) (Next → ⊥) (λ s after asked looks. looks) (λ fails next. fails (so next)) image start rest it
 
-    pub migrates_less : {W : Type 0} (written : W → Option (List ℕ)) (old : W) (new : Option W) → MayMigrate image rest written Done old new → MayMigrate image rest written Next old new
-    migrates_less written old new it =
-        ⊎_elim (λ (done : Migrated image rest × Says written done_line Done old new). inl (done.0, λ next. done.1 (so next))) (λ (idle : (Done → ⊥) × IsUntouched image rest). inr (λ next. idle.0 (so next), idle.1)) it
+    module _ {W : Type 0} (written : W → Option (List ℕ)) (old : W) (new : Option W) where
+      pub speaks_less : (Step After : Office → Office → Asked → Type 0) → ((s after : Office) (asked : Asked) → Step s after asked → After s after asked)
+          → MayRun image start rest (HandsBack Done old new) Step → MayRun image start rest (HandsBack Next old new) After
+      speaks_less Step After more it = run_more Step After (HandsBack Done old new) (HandsBack Next old new) more (back_less written old new) image start rest it
 
-    module _ {W L S E C : Type 0} (listens : L → Type 0) (begins : C → Type 0) (gives : C → ℕ → C → Type 0) (told : L → List (Event S E) → Type 0) (are_ends : S → E → E → Type 0)
-        (remaining : Gathered E → Option (List ℕ)) (contents : Outbox E → Option (List ℕ)) (written : W → Option (List ℕ)) (input : Option (List ℕ))
-        (old : W) (new : Option W) (served : Option (Served L E)) (clock : Option C) where
-      pub performs_less : (t : Task) → Performs listens begins gives told are_ends remaining contents written input t image rest Done old new served clock
-          → Performs listens begins gives told are_ends remaining contents written input t image rest Next old new served clock
-      performs_less (task.Init words) it = λ next. it (so next)
-      performs_less (task.Desk words) it = runs_less (Commands input words written Done old new) (Commands input words written Next old new) (commands_less written old new input words) it
-      performs_less (task.Link words) it = runs_less Looks Looks (λ s after asked looks. looks) it
-      performs_less (task.Links words) it = runs_less Looks Looks (λ s after asked looks. looks) it
-      performs_less (task.Manifest words) it = runs_less (Writes written IsManifest Done old new) (Writes written IsManifest Next old new) (writes_less written old new IsManifest) it
-      performs_less (task.Compare words) it = runs_less (Compares written input Done old new) (Compares written input Next old new) (compares_less written old new input) it
-      performs_less (task.List words) it = runs_less (Lists words written Done old new) (Lists words written Next old new) (lists_less written old new words) it
-      performs_less (task.Export words) it = runs_less Looks Looks (λ s after asked looks. looks) it
-      performs_less (task.Replay words) it = runs_less (Answers words written Done old new) (Answers words written Next old new) (answers_less written old new words) it
-      performs_less (task.Serve words) it =
-          runs_less (Serves listens begins gives told are_ends remaining contents Done served clock) (Serves listens begins gives told are_ends remaining contents Next served clock) (serves_less listens begins gives told are_ends remaining contents served clock) it
-      performs_less (task.Migrate words) it = migrates_less written old new it
+      pub migrates_less : MayMigrate image start rest written Done old new → MayMigrate image start rest written Next old new
+      migrates_less it = ⊎_elim
+          (λ (done : Migrated image rest × Says written done_line Done old new). inl (done.0, λ next. done.1 (so next)))
+          (λ (idle : HandsBack Done old new × IsSpared image start (ShowsHeld image (HoldsEither image)) rest). inr (back_less written old new idle.0, idle.1))
+          it
+
+      module _ {N L S E C : Type 0} (listens : SocketAddrV4 → L → Type 0) (begins : C → Type 0) (gives : C → ℕ → C → Type 0) (told : L → List (Event S E) → Type 0) (are_ends : S → E → E → Type 0)
+          (remaining : Gathered E → Option (List ℕ)) (contents : Outbox E → Option (List ℕ)) (input : Option (List ℕ)) (outside : N) (ending : Ending N L E C) where
+        pub performs_less : (t : Task) → Performs listens begins gives told are_ends remaining contents written input t image start rest Done old new outside ending
+            → Performs listens begins gives told are_ends remaining contents written input t image start rest Next old new outside ending
+        performs_less (task.Init words) it = (it.0, fails_less it.1)
+        performs_less (task.Desk words) it = speaks_less (Commands input words written Done old new) (Commands input words written Next old new) (commands_less written old new input words) it
+        performs_less (task.Link words) it = unless_more looks_less it
+        performs_less (task.Links words) it = unless_more looks_less it
+        performs_less (task.Manifest words) it = speaks_less (Writes written IsManifest Done old new) (Writes written IsManifest Next old new) (writes_less written old new IsManifest) it
+        performs_less (task.Compare words) it = speaks_less (Compares written input Done old new) (Compares written input Next old new) (compares_less written old new input) it
+        performs_less (task.List words) it = speaks_less (Lists words written Done old new) (Lists words written Next old new) (lists_less written old new words) it
+        performs_less (task.Export words) it = (it.0, looks_less it.1)
+        performs_less (task.Replay words) it = unless_more (speaks_less (Answers words written Done old new) (Answers words written Next old new) (answers_less written old new words)) it
+        performs_less (task.Serve words) it = run_more
+            (Serves listens begins gives told are_ends remaining contents words Done outside ending) (Serves listens begins gives told are_ends remaining contents words Next outside ending)
+            (NeverListens Done outside ending) (NeverListens Next outside ending)
+            (serves_less listens begins gives told are_ends remaining contents words outside ending) (never_less outside ending) image start rest it
+        performs_less (task.Migrate words) it = migrates_less it

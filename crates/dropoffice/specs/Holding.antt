@@ -1,9 +1,10 @@
 -- What an office file holds when a command opens it, and what the command's work makes of the open connection.
-use Rattle.std.specs.Prelude.{◌≡◌, IsTrue}
+use Rattle.std.specs.Prelude.{◌≡◌, ◌⊎◌, IsTrue}
 use Rattle.sqlite.specs.Effect.{Database, IsDatabase}
 use Rattle.sqlite.specs.State.{State, HasCleanDisk}
 use Rattle.sqlite.specs.Files.{HoldsDatabase, AreFoundIn}
 use Rattle.sqlite.specs.Recovery.{Image}
+use Rattle.sqlite.specs.Start.{FindsIn}
 use Rattle.sqlite.specs.Tree.{Trees}
 use Rattle.boxes.specs.State.{State as Office}
 use Rattle.sqltables.specs.Kept.{KeepsState, LeavesStates, MayLeave, RowsKeep}
@@ -33,6 +34,28 @@ WasOurs s = HasCleanDisk s → HasOurs s
 abbrev pub StillSees : State → State → Type 0
 StillSees old new = HasCleanDisk new → IsTrue new.is_open → HasCleanDisk old × SeesSame old new
 
+-- No fault of the disk is forgotten. A crash leaves the database that the connection showed while it was open, or one that means
+-- again an office like this.
+pub record SparesShown (old new : State) (Was : Office → Type 0) : Type 0 where
+  pub honest : HasCleanDisk new → HasCleanDisk old
+  pub crash : HasCleanDisk new → IsTrue old.is_open → (trees : Trees) → new.may_leave trees
+      → (trees ≡ old.committed.trees) ⊎ ((office : Office) × Was office × RowsKeep trees office)
+
+-- the trees are the one database that the files hold
+pub record AreHeld (image : Image) (trees : Trees) : Type 0 where
+  pub found : AreFoundIn image trees
+  pub holds : (db : Trees) → HoldsDatabase image db → trees ≡ db
+
+-- a crash leaves the database that the files held, or one that means an office like this
+abbrev pub LeavesHeld : Image → (Office → Type 0) → State → Type 0
+LeavesHeld image Like now = (trees : Trees) → now.may_leave trees → AreHeld image trees ⊎ ((office : Office) × Like office × RowsKeep trees office)
+
+-- While the connection is open, it shows the database that the files held. A crash leaves that database, or one that means an
+-- office like this, which the files held.
+pub record ShowsHeld (image : Image) (Was : Office → Type 0) (now : State) : Type 0 where
+  pub shows : IsTrue now.is_open → FindsIn image now
+  pub crash : LeavesHeld image Was now
+
 -- The tables of a connection meant a sound state. A step led to the state that they mean now, and a crash leaves that state, or
 -- that state after one more of what was asked.
 pub record RanOn (old new : State) (Step : Office → Office → Asked → Type 0) : Type 0 where
@@ -60,6 +83,10 @@ pub record HoldsFirst (image : Image) (s : Office) : Type 0 where
   pub found : AreFoundIn image trees
   pub holds : (db : Trees) → HoldsDatabase image db → trees ≡ db
   pub keep : RowsKeepFirst trees s
+
+-- the same in either version
+abbrev pub HoldsEither : Image → Office → Type 0
+HoldsEither image s = HoldsFirst image s ⊎ HoldsState image s
 
 -- The tables of a connection meant a sound state, in either version. They mean it now in version 2, and so does whatever a
 -- crash leaves.

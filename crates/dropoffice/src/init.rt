@@ -1,5 +1,5 @@
 //! `drop init`: makes an office file.
-ghost use Rattle.std.specs.Prelude.{◌≡◌, pos, neg_ℤ, ◌≤ℤ◌, IfOk, IfSome, IsOk, IsTrue};
+ghost use Rattle.std.specs.Prelude.{◌≡◌, ◌≤◌, ◌⊎◌, pos, neg_ℤ, ◌≤ℤ◌, IfErr, IfOk, IfSome, IsOk, IsTrue};
 ghost use Rattle.sqlite.specs.State.{HasCleanDisk};
 ghost use Rattle.sqlite.specs.Held.{state};
 ghost use Rattle.sqlite.specs.WalFiles.{image_at};
@@ -8,10 +8,12 @@ ghost use Rattle.boxes.specs.FirstState.{first_state};
 ghost use Rattle.boxes.specs.State.{State};
 ghost use Rattle.sqltables.specs.Kept.{KeepsState, LeavesStates, MayLeave};
 ghost use Rattle.sqltables.specs.Schema.{s0};
-ghost use Rattle.dropoffice.specs.Leaving.{IsCleanLeft, IsClosed};
-ghost use Rattle.dropoffice.specs.Performing.{IsFirstRow, IsGivenSecret, IsSecretOf, Made};
+ghost use Rattle.commands.specs.Wording.{IsNumber};
+ghost use Rattle.dropoffice.specs.Holding.{LeavesHeld, SparesShown};
+ghost use Rattle.dropoffice.specs.Leaving.{IsCleanLeft, IsClosed, IsSpared};
+ghost use Rattle.dropoffice.specs.Performing.{HasSettings, IsFirstRow, IsGivenSecret, IsSecretOf, Made, MayBeMade};
 
-use crate::opening::{Left, Purpose, Worked, connect, end_work, unfit, unopened_with};
+use crate::opening::{Left, Purpose, Worked, connect, end_work, ended_with, unfit};
 use boxes::OfficeRow;
 use commands::{Argument, Fault, check_secret, read_secret_file};
 use sigv4::{Allowance, is_key_id};
@@ -28,32 +30,32 @@ use tasks::{Init, Secret};
 const OWNERS: u32 = 0o600;
 
 /// Makes an office file from a new or an empty file. A file with the secret is read before.
-pub(crate) fn do_init<S: Start>(
+pub(crate) fn do_init<S: Start + Drop>(
     rt: &HostRuntime,
     words: &Init<'_>,
     start: S,
-) -> Worked<Result<(), Fault>, FileFrom<S>>
-    ensures made { IfSome result.left (λ left. IsCleanLeft left → IsOk result.gain
-        → Made words.now (image_at S.Start) left) }
+) -> Worked<Result<(), Fault>, S, FileFrom<S>>
+    ensures made { IsCleanLeft result.left → Made words.now (image_at S.Start) result.left
+        ⊎ ((IsOk result.gain → ⊥) × IsSpared (image_at S.Start) start (LeavesHeld (image_at S.Start) (MayBeMade words.now (image_at S.Start))) result.left) }
     ensures opened { IsOk result.gain → IsOk result.closed → IsClosed result.left }
 {
     let (office, secret) = match read_words(rt, words) {
         Ok(read) => read,
-        Err(fault) => return unopened_with(Err(fault)),
+        Err(fault) => return ended_with(Err(fault), Left::Unopened(start)),
     };
     let Ok(log) = format!(in rt.alloc(); "{}-wal", words.file) else {
-        return unopened_with(Err(Fault::OutOfMemory));
+        return ended_with(Err(Fault::OutOfMemory), Left::Unopened(start));
     };
     let had_log = fs::symlink_metadata(rt, log.as_str()).is_ok();
     let is_new = match make_file(rt, words.file) {
         Ok(is_new) => is_new,
-        Err(fault) => return unopened_with(Err(fault)),
+        Err(fault) => return ended_with(Err(fault), Left::Unopened(start)),
     };
     let made = make_office(rt, words, secret.as_slice(), office, start);
     if is_new && is_unmade(&made.gain) {
         let Worked { gain, .. } = made;
         remove_made(rt, words.file, log.as_str(), had_log);
-        return unopened_with(gain);
+        return ended_with(gain, Left::Lost);
     }
     made
 }
@@ -79,8 +81,7 @@ fn is_unmade(made: &Result<(), Fault>) -> bool
 
 // The office's settings. Fails if an argument is malformed.
 fn read_office(words: &Init<'_>) -> Result<OfficeRow, Fault>
-    ensures clerk { IfOk result (λ office. IsKeyId words.now.clerk.now) }
-    ensures east { IfOk result (λ office. (neg_ℤ (pos 840) ≤ℤ office.east) × (office.east ≤ℤ pos 840)) }
+    ensures settings { IfOk result (HasSettings words.now) }
     ensures secret { IfOk result (λ office. IsGivenSecret words.now.secret) }
 {
     if !is_key_id(words.clerk.as_bytes()) {
@@ -95,11 +96,11 @@ fn read_office(words: &Init<'_>) -> Result<OfficeRow, Fault>
     let Some(west) = minutes_of(words.west) else {
         return Err(Fault::MalformedValue(Argument::West));
     };
-    let allowance = allowance_of(words.allowance).ok_or(Fault::MalformedValue(
-        Argument::Allowance,
-    ))?;
+    let Some(allowance) = allowance_of(words.allowance) else {
+        return Err(Fault::MalformedValue(Argument::Allowance));
+    };
     Ok(OfficeRow {
-        east: east - west,
+        east: east as i16 - west as i16,
         allowance,
     })
 }
@@ -115,20 +116,23 @@ fn read_secret(rt: &HostRuntime, secret: Secret<'_>) -> Result<Vec<u8>, Fault>
 }
 
 // A whole number of minutes from 0 to 840. The argument parser allows no other value.
-fn minutes_of(text: &str) -> Option<i16>
-    ensures { IfSome result (λ m. (pos 0 ≤ℤ m) × (m ≤ℤ pos 840)) }
+fn minutes_of(text: &str) -> Option<u16>
+    ensures { IfSome result (λ minutes. IsNumber text.now minutes × (minutes ≤ 840)) }
 {
-    let minutes = text.parse::<i16>().ok()?;
-    if 0 <= minutes && minutes <= 840 {
-        Some(minutes)
-    } else {
-        None
-    }
+    let Ok(minutes) = text.parse::<u16>() else {
+        return None;
+    };
+    if minutes <= 840 { Some(minutes) } else { None }
 }
 
 // A whole number of seconds from 0 to 900. The argument parser allows no other value.
-fn allowance_of(text: &str) -> Option<Allowance> {
-    Allowance::new(text.parse::<u64>().ok()?)
+fn allowance_of(text: &str) -> Option<Allowance>
+    ensures { IfSome result (IsNumber text.now) }
+{
+    match text.parse::<u64>() {
+        Ok(seconds) => Allowance::new(seconds),
+        Err(_) => None,
+    }
 }
 
 // Makes an empty file for the owner only, if there is no file. Whether it made one.
@@ -158,20 +162,21 @@ fn remove_made<R: Files>(rt: &R, file: &str, log: &str, had_log: bool) {
 }
 
 // Makes an office in the database of the file.
-fn make_office<S: Start>(
+fn make_office<S: Start + Drop>(
     rt: &HostRuntime,
     words: &Init<'_>,
     secret: &[u8],
     office: OfficeRow,
     start: S,
-) -> Worked<Result<(), Fault>, FileFrom<S>>
-    ensures made { IsFirstRow words.now office secret.now → IfSome result.left (λ left. IsCleanLeft left
-        → IsOk result.gain → Made words.now (image_at S.Start) left) }
+) -> Worked<Result<(), Fault>, S, FileFrom<S>>
+    ensures made { IsFirstRow words.now office secret.now → IsCleanLeft result.left
+        → Made words.now (image_at S.Start) result.left
+        ⊎ ((IsOk result.gain → ⊥) × IsSpared (image_at S.Start) start (LeavesHeld (image_at S.Start) (MayBeMade words.now (image_at S.Start))) result.left) }
     ensures opened { IsOk result.gain → IsOk result.closed → IsClosed result.left }
 {
     let conn = match connect(rt, words.file, Purpose::Change, start) {
         Ok(conn) => conn,
-        Err(fault) => return unopened_with(Err(fault)),
+        Err((fault, left)) => return ended_with(Err(fault), left),
     };
     let clerk = words.clerk.as_bytes();
     match create_over(rt.alloc(), conn, office, clerk, secret) {
@@ -180,14 +185,10 @@ fn make_office<S: Start>(
             Worked {
                 gain: Ok(()),
                 closed,
-                left: Some(left),
+                left,
             }
         }
-        Err((fault, conn)) => Worked {
-            gain: Err(fault),
-            closed: Ok(()),
-            left: Some(Left::Looked(conn)),
-        },
+        Err((fault, conn)) => ended_with(Err(fault), Left::Looked(conn)),
     }
 }
 
@@ -206,6 +207,10 @@ fn create_over<S: Alter + Drop>(
         × LeavesStates (state S.Store made)
         × ((t : State) → MayLeave (state S.Store made) t
         → t ≡ first_state office.east office.allowance clerk.now secret.now)) }
+    ensures spared { neg_ℤ (pos 840) ≤ℤ office.east → office.east ≤ℤ pos 840 → IsKeyId clerk.now → IsSecret secret.now
+        → IfErr result (λ r. SparesShown (state S.Store conn) (state S.Store r.1)
+        (λ t. ((state S.Store conn).now.schema ≡ s0)
+        × (t ≡ first_state office.east office.allowance clerk.now secret.now))) }
 {
     match SqlKeeper::create(alloc, conn, office, clerk, secret) {
         Ok(keeper) => Ok(keeper.close()),

@@ -7,7 +7,7 @@ mod opening;
 mod program;
 mod works;
 
-pub use commands::{Fault, Machine, Outside};
+pub use commands::{Ending, Fault, Machine, Outside};
 pub use office::{
     Answer, Clock, Counted, DeskFault, FixedClock, ListedClock, MachineClock, Message, Office,
     Replayed, SessionEnd, law_of_acts, law_of_alike, law_of_replies, replay_bytes,

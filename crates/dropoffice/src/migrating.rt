@@ -1,14 +1,15 @@
 //! `drop migrate`: migrates an office file from version 1 to version 2.
-ghost use Rattle.std.specs.Prelude.{IfErr, IfOk, IfSome, IsOk};
+ghost use Rattle.std.specs.Prelude.{IfErr, IfOk, IsOk};
 ghost use Rattle.sqlite.specs.State.{HasCleanDisk};
 ghost use Rattle.sqlite.specs.Held.{state};
 ghost use Rattle.sqlite.specs.WalFiles.{image_at};
-ghost use Rattle.dropoffice.specs.Holding.{HoldsOurs, MigratedOn, StillSees, WasOurs};
+ghost use Rattle.sqlkeeper.specs.Versions.{IsOfficeFile};
+ghost use Rattle.dropoffice.specs.Holding.{HoldsOurs, MigratedOn, SparesShown, StillSees, WasOurs};
 ghost use Rattle.dropoffice.specs.Leaving.{IsCleanLeft, IsClosed};
 ghost use Rattle.dropoffice.specs.Performing.{MayMigrate};
 
 use crate::opening::{
-    Left, Purpose, Worked, connect, end_work, require_file, unclosed, unfit, unopened_with,
+    Left, Purpose, Worked, connect, end_work, ended_with, require_file, unclosed, unfit,
 };
 use crate::works::failed;
 use commands::{Done, Fault, tell};
@@ -19,37 +20,29 @@ use std::io::Write;
 use tasks::OfficeFile;
 
 /// Migrates an office file to version 2, and writes the line `done` to `out`. A file of version 2 stays unchanged.
-pub(crate) fn do_migrate<S: Start, W: Write + Drop>(
+pub(crate) fn do_migrate<S: Start + Drop, W: Write + Drop>(
     rt: &HostRuntime,
     words: &OfficeFile<'_>,
     out: W,
     start: S,
-) -> Worked<Done<W>, FileFrom<S>>
-    ensures ran { HoldsOurs (image_at S.Start) → IfSome result.left (λ left. IsCleanLeft left
-        → MayMigrate (image_at S.Start) left W.contents (IsOk result.gain.result) out result.gain.out) }
+) -> Worked<Done<W>, S, FileFrom<S>>
+    ensures ran { HoldsOurs (image_at S.Start) → IsCleanLeft result.left
+        → MayMigrate (image_at S.Start) start result.left W.contents (IsOk result.gain.result) out result.gain.out }
     ensures opened { IsOk result.gain.result → IsClosed result.left }
 {
     if let Err(fault) = require_file(rt, words.file) {
-        return unopened_with(failed(fault, out));
+        return ended_with(failed(fault, out), Left::Unopened(start));
     }
     let conn = match connect(rt, words.file, Purpose::Change, start) {
         Ok(conn) => conn,
-        Err(fault) => return unopened_with(failed(fault, out)),
+        Err((fault, left)) => return ended_with(failed(fault, out), left),
     };
     match migrate_over(rt.alloc(), conn) {
         Ok(conn) => {
             let (closed, left) = end_work(conn, Purpose::Change);
-            Worked {
-                gain: tell(closed.map_err(unclosed), out),
-                closed: Ok(()),
-                left: Some(left),
-            }
+            ended_with(tell(closed.map_err(unclosed), out), left)
         }
-        Err((fault, conn)) => Worked {
-            gain: failed(fault, out),
-            closed: Ok(()),
-            left: Some(Left::Looked(conn)),
-        },
+        Err((fault, conn)) => ended_with(failed(fault, out), Left::Looked(conn)),
     }
 }
 
@@ -61,6 +54,8 @@ fn migrate_over<S: Alter + Drop>(
     ensures made { WasOurs (state S.Store conn) → IfOk result (λ made. HasCleanDisk (state S.Store made)
         → MigratedOn (state S.Store conn) (state S.Store made)) }
     ensures looked { IfErr result (λ r. StillSees (state S.Store conn) (state S.Store r.1)) }
+    ensures spared { WasOurs (state S.Store conn) → IfErr result (λ r. SparesShown (state S.Store conn)
+        (state S.Store r.1) (IsOfficeFile (state S.Store conn))) }
 {
     match SqlKeeper::migrate(alloc, conn) {
         Ok(keeper) => Ok(keeper.close()),

@@ -1,5 +1,5 @@
 //! The office file of a command: its connection, its keeper, and the command's work.
-ghost use Rattle.std.specs.Prelude.{◌≡◌, ◌≢◌, ◌⊎◌, IfErr, IfOk, IfSome, IsOk, IsSome, None};
+ghost use Rattle.std.specs.Prelude.{◌≡◌, ◌≢◌, ◌⊎◌, IfErr, IfOk, IsOk};
 ghost use Rattle.sqlite.specs.State.{HasCleanDisk};
 ghost use Rattle.sqlite.specs.Held.{state};
 ghost use Rattle.sqlite.specs.Files.{file_state, IsOpened};
@@ -7,8 +7,9 @@ ghost use Rattle.sqlite.specs.Start.{FindsIn};
 ghost use Rattle.sqlite.specs.WalFiles.{image_at};
 ghost use Rattle.boxes.specs.State.{State};
 ghost use Rattle.sqltables.specs.Kept.{KeepsState, LeavesStates};
-ghost use Rattle.dropoffice.specs.Leaving.{IsCleanLeft, IsClosed, IsLeftOf, IsUntouched, LeavesOffice, MayCrashTo, Ran};
-ghost use Rattle.dropoffice.specs.Holding.{HoldsOurs, RanOn, StillSees, WasOurs};
+ghost use Rattle.dropoffice.specs.Leaving.{IsCleanLeft, IsClosed, IsLeftOf, IsLooked, IsSpared, LeavesOffice, MayCrashTo};
+ghost use Rattle.dropoffice.specs.Performing.{MayRun};
+ghost use Rattle.dropoffice.specs.Holding.{HoldsOurs, RanOn, SparesShown, StillSees, WasOurs};
 
 use commands::{Fault, OfficeWork};
 use sqlite::{
@@ -95,28 +96,37 @@ pub(crate) enum Purpose {
 }
 
 /// Connects to the database in an existing file. An empty file is a database without tables.
-pub(crate) fn connect<S: Start>(
+///
+/// # Errors
+///
+/// The fault, and what is left of the files.
+pub(crate) fn connect<S: Start + Drop>(
     rt: &HostRuntime,
     file: &str,
     purpose: Purpose,
     start: S,
-) -> Result<Connection<Store<S>>, Fault>
+) -> Result<Connection<Store<S>>, (Fault, Left<S, FileFrom<S>>)>
     ensures opened { IfOk result (λ c. HasCleanDisk (file_state c) → IsOpened c) }
     ensures found { IfOk result (λ c. HasCleanDisk (file_state c)
         → FindsIn (image_at S.Start) (file_state c)) }
+    ensures spared { IfErr result (λ e. IsCleanLeft e.1
+        → IsSpared (image_at S.Start) start (λ conn. ⊥) e.1) }
 {
     // SQLite does not read these as file names.
     if file == ":memory:" || file.starts_with("file:") {
-        return Err(Fault::CannotOpen);
+        return Err((Fault::CannotOpen, Left::Unopened(start)));
     }
-    let options = options(rt, purpose)?;
+    let options = match options(rt, purpose) {
+        Ok(options) => options,
+        Err(fault) => return Err((fault, Left::Unopened(start))),
+    };
     let files = match sqlite_std_file::open(rt, file, start) {
         Ok(files) => files,
-        Err(error) => return Err(unopened_files(error)),
+        Err(error) => return Err((unopened_files(error), Left::Lost)),
     };
     match Connection::open_files(rt.alloc(), files, options) {
         Ok(conn) => Ok(conn),
-        Err((error, left)) => Err(unopened(error, &left)),
+        Err((error, left)) => Err((unopened(error, &left), Left::Refused(left))),
     }
 }
 
@@ -158,6 +168,8 @@ fn work_on<S: Alter + Drop, W: OfficeWork + Drop>(
         → RanOn (state S.Store conn) (state S.Store r.1) (W.step work r.0)) }
     ensures idle { IfErr result (λ r. W.idle work r.0) }
     ensures looked { IfErr result (λ r. StillSees (state S.Store conn) (state S.Store r.1)) }
+    ensures spared { WasOurs (state S.Store conn) → IfErr result (λ r. SparesShown (state S.Store conn)
+        (state S.Store r.1) (KeepsState (state S.Store conn))) }
 {
     match SqlKeeper::open(rt.alloc(), conn) {
         Ok(keeper) => {
@@ -168,9 +180,16 @@ fn work_on<S: Alter + Drop, W: OfficeWork + Drop>(
     }
 }
 
-/// What is left of an office file. Dropping it closes the file.
+/// What is left of the office file that a command names. Dropping it closes the file. `S` stands for what the file and its log
+/// held.
 #[derive(Drop)]
-pub enum Left<D: Disk> {
+pub enum Left<S, D: Disk> {
+    /// What stood for the files, which were not opened.
+    Unopened(S),
+    /// Nothing: the system did not open the files, or a file that was just made is gone again.
+    Lost,
+    /// The files, of which the engine refused to open a database.
+    Refused(Leftover<D>),
     /// The connection, after work that only looked, or if the office could not be opened.
     Looked(Connection<FileStore<D>>),
     /// The files, closed.
@@ -180,84 +199,90 @@ pub enum Left<D: Disk> {
 }
 
 // Ends the work on an office file. The error means that it could not be closed.
-pub(crate) fn end_work<D: Disk + Drop>(
+pub(crate) fn end_work<S, D: Disk + Drop>(
     conn: Connection<FileStore<D>>,
     purpose: Purpose,
-) -> (Result<(), Error>, Left<D>)
-    ensures closed { IsOk result.0 → purpose ≢ Purpose.Look → IsClosed (Some result.1) }
+) -> (Result<(), Error>, Left<S, D>)
+    ensures closed { IsOk result.0 → purpose ≢ Purpose.Look → IsClosed result.1 }
+    ensures looked { purpose ≡ Purpose.Look → IsLooked result.1 }
     ensures clean { IsCleanLeft result.1 → HasCleanDisk (file_state conn) }
     ensures leaves { IsCleanLeft result.1 → (s : State) → KeepsState (file_state conn) s
         → LeavesOffice result.1 s }
     ensures crash { IsCleanLeft result.1 → (s : State) → KeepsState (file_state conn) s
         → LeavesStates (file_state conn) → MayCrashTo result.1 (IsLeftOf (file_state conn) s) }
 {
-    match purpose {
-        Purpose::Look => (Ok(()), Left::Looked(conn)),
-        Purpose::Change | Purpose::Serve => match conn.close_files() {
-            Ok(files) => (Ok(()), Left::Closed(files)),
-            Err((error, store)) => (Err(error), Left::Unclosed(store)),
-        },
+    if purpose == Purpose::Look {
+        (Ok(()), Left::Looked(conn))
+    } else {
+        close_work(conn)
     }
 }
 
-/// What work on an office file gives, and what is left of the file, if it was opened.
+// Closes the files. The error means that they could not be closed.
+fn close_work<S, D: Disk + Drop>(conn: Connection<FileStore<D>>) -> (Result<(), Error>, Left<S, D>)
+    ensures closed { IsOk result.0 → IsClosed result.1 }
+    ensures clean { IsCleanLeft result.1 → HasCleanDisk (file_state conn) }
+    ensures leaves { IsCleanLeft result.1 → (s : State) → KeepsState (file_state conn) s
+        → LeavesOffice result.1 s }
+    ensures crash { IsCleanLeft result.1 → (s : State) → KeepsState (file_state conn) s
+        → LeavesStates (file_state conn) → MayCrashTo result.1 (IsLeftOf (file_state conn) s) }
+{
+    match conn.close_files() {
+        Ok(files) => (Ok(()), Left::Closed(files)),
+        Err((error, store)) => (Err(error), Left::Unclosed(store)),
+    }
+}
+
+/// What work on an office file gives, and what is left of the file.
 #[derive(Drop)]
-pub(crate) struct Worked<G: Drop, D: Disk> {
+pub(crate) struct Worked<G: Drop, S: Drop, D: Disk> {
     /// What the work gives.
     pub(crate) gain: G,
     /// Whether the file was closed, if it was to be.
     pub(crate) closed: Result<(), Error>,
     /// What is left.
-    pub(crate) left: Option<Left<D>>,
+    pub(crate) left: Left<S, D>,
 }
 
-/// Nothing was opened.
-pub(crate) fn unopened_with<G: Drop, D: Disk>(gain: G) -> Worked<G, D>
+/// No file was to be closed.
+pub(crate) fn ended_with<G: Drop, S: Drop, D: Disk>(gain: G, left: Left<S, D>) -> Worked<G, S, D>
     ensures gain { result.gain ≡ gain }
-    ensures none { result.left ≡ None }
+    ensures left { result.left ≡ left }
 {
     Worked {
         gain,
         closed: Ok(()),
-        left: None,
+        left,
     }
 }
 
 /// Does the work on the office of an existing file.
-pub(crate) fn work_over<S: Start, W: OfficeWork + Drop>(
+pub(crate) fn work_over<S: Start + Drop, W: OfficeWork + Drop>(
     rt: &HostRuntime,
     file: &str,
     purpose: Purpose,
     work: W,
     start: S,
-) -> Worked<W::Gain, FileFrom<S>>
-    ensures idle { W.idle work result.gain ⊎ IsSome result.left }
+) -> Worked<W::Gain, S, FileFrom<S>>
+    ensures looked { W.idle work result.gain ⊎ (purpose ≡ Purpose.Look → IsLooked result.left) }
     ensures closed { W.idle work result.gain
         ⊎ (IsOk result.closed → purpose ≢ Purpose.Look → IsClosed result.left) }
-    ensures ran { HoldsOurs (image_at S.Start) → IfSome result.left (λ left. IsCleanLeft left
-        → Ran (image_at S.Start) left (W.step work result.gain)
-        ⊎ (W.idle work result.gain × IsUntouched (image_at S.Start) left)) }
+    ensures ran { HoldsOurs (image_at S.Start) → IsCleanLeft result.left
+        → MayRun (image_at S.Start) start result.left (W.idle work result.gain)
+        (W.step work result.gain) }
 {
     if let Err(fault) = require_file(rt, file) {
-        return unopened_with(work.refuse(fault));
+        return ended_with(work.refuse(fault), Left::Unopened(start));
     }
     let conn = match connect(rt, file, purpose, start) {
         Ok(conn) => conn,
-        Err(fault) => return unopened_with(work.refuse(fault)),
+        Err((fault, left)) => return ended_with(work.refuse(fault), left),
     };
     match work_on(rt, conn, work) {
         Ok((gain, conn)) => {
             let (closed, left) = end_work(conn, purpose);
-            Worked {
-                gain,
-                closed,
-                left: Some(left),
-            }
+            Worked { gain, closed, left }
         }
-        Err((gain, conn)) => Worked {
-            gain,
-            closed: Ok(()),
-            left: Some(Left::Looked(conn)),
-        },
+        Err((gain, conn)) => ended_with(gain, Left::Looked(conn)),
     }
 }

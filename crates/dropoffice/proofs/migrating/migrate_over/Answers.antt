@@ -1,5 +1,5 @@
 use Rattle.sqlite.specs.Held.{state}
-use Rattle.dropoffice.proofs.Ended.{ours_open, still_sees}
+use Rattle.dropoffice.proofs.Ended.{ours_open, spares_shown, still_sees}
 use Rattle.dropoffice.proofs.migrating.migrate_over.Goals as goal
 
 pub returns-in-Ok-clause-made : goal.returns-in-Ok-clause-made
@@ -22,3 +22,9 @@ returns-in-Ok-clause-made g c was clean =
 pub returns-in-Err-clause-looked : goal.returns-in-Err-clause-looked
 returns-in-Err-clause-looked g c =
     still_sees g.S.Store c.args.conn (g.met.S.Store.shut_if_dirty c.args.conn.store) (state g.S.Store c.in-Err.conn) c.in-Err.ensures.kept
+
+pub returns-in-Err-clause-spared : goal.returns-in-Err-clause-spared
+returns-in-Err-clause-spared g c was =
+    let old = c.args.conn in
+    spares_shown g.S.Store old (g.met.S.Store.shut_if_dirty old.store) (state g.S.Store c.in-Err.conn) _ (λ db is_open may. g.met.S.Store.settled old.store db is_open may)
+    (c.in-Err.ensures.spares (ours_open g.S.Store old (g.met.S.Store.shut_if_dirty old.store) was))
