@@ -59,7 +59,7 @@ prove() (
     cd "$1"
     unset CI
     if proves_by_name && keeps_proofs; then
-        nice rt ci tasks &
+        rt ci commands &
         rt ci office &
         rt ci sqlkeeper &
         wait
