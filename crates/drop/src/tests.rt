@@ -56,7 +56,7 @@ fn a_failed_flush_is_told(rt: HostRuntime) -> Result<(), Fail> {
         Unknown,
         Machine { rt: &rt },
     )
-    .status;
+    .into_status();
     let silent = perform(
         &rt,
         &WORDS,
@@ -66,7 +66,7 @@ fn a_failed_flush_is_told(rt: HostRuntime) -> Result<(), Fail> {
         Unknown,
         Machine { rt: &rt },
     )
-    .status;
+    .into_status();
     fs::remove_file(&rt, WORDS[3])?;
     assert_eq!(rt; status, 1);
     assert_eq!(rt; err.as_slice(), b"drop: a connection failed\n".as_slice());
