@@ -56,7 +56,7 @@ fn a_failed_flush_is_told(rt: HostRuntime) -> Result<(), Fail> {
         Unknown,
         Machine { rt: &rt },
     )
-    .into_status();
+    .status;
     let silent = perform(
         &rt,
         &WORDS,
@@ -66,7 +66,7 @@ fn a_failed_flush_is_told(rt: HostRuntime) -> Result<(), Fail> {
         Unknown,
         Machine { rt: &rt },
     )
-    .into_status();
+    .status;
     fs::remove_file(&rt, WORDS[3])?;
     assert_eq!(rt; status, 1);
     assert_eq!(rt; err.as_slice(), b"drop: a connection failed\n".as_slice());
