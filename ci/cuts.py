@@ -1,7 +1,7 @@
 """By hand, since it takes hours of processor time: runs the proved program `drop` on a thousand published requests and one more,
 with their stream cut in two, once at each place. The second part is written after the first was read completely, so no read
-returns bytes of both. Each time exactly the first thousand must be answered. The gate covers some of these places, with readers
-of its own (crates/streams).
+returns bytes of both. Each time exactly the first thousand must be answered. The gate covers some of these places
+(ci/test_streams.py).
 
 The expected answers come from the table of refusals in docs/RULES.md, and the request from ci/messages.py. With `--step N` only
 each Nth place is tried, starting at `--first`. The last line is `N passed, M failed`.

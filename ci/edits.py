@@ -17,6 +17,10 @@ If a proof file names what an edit removed, or a lemma that the file depends on 
 name alone. Such an edit counts, and is reported. In a shared check it counts if the function's own proof file names what is
 gone. A lemma that was not admitted may be due to another edit, so such an edit is tried alone.
 
+A line `guards: CLAUSE ..` names clauses of the function that the edit must leave unproved; `ensures` is the only clause of a
+function that has one without a name. `--guards` writes these lines, from what the checks say. A clause that is only refused for
+a name does not count.
+
 The harmless edits `ci/controls/NAME/*.edit` are tried along with the others, and must be found still proved. Each edit that is
 not refused, and each harmless edit that is refused, is named. The last line is `N passed, M failed`, or `N passed, M failed, K
 skipped`.
@@ -44,11 +48,16 @@ import tempfile
 import time
 
 import kit
+from clauses import public_clauses
 
 RT = kit.rt()
 # The version of what counts as a refusal: it changes with that, so that nothing that was kept before counts.
 RULES = 3
 KEPT = pathlib.Path(os.environ.get("XDG_CACHE_HOME") or pathlib.Path.home() / ".cache") / "drop-edits"
+# The public clauses that no wrong body can break, each with the reason.
+UNGUARDED = pathlib.Path(__file__).with_name("unguarded.txt")
+# The crates whose functions are tests.
+OF_TESTS = ["examples", "trials", "streams", "stores", "peers", "caches"]
 # At least this many edits share a check, if there are that many: loading what is kept costs as much as a few edits.
 FEWEST = 24
 # A library that `rt ci` has built is complete once none of its files was written for so many seconds.
@@ -59,9 +68,13 @@ HEAD = re.compile(r"^( *)(?:pub(?:\([^)]*\))? )?(?:final )?fn (\w+)", re.M)
 VERDICT = re.compile(r"^fn (\S+): (.*)$")
 # A goal that a check left open: its text, and its name.
 GOAL = re.compile(r"note: \S+: (.*) \(`(\S+)`\)")
+# The clauses that an edit guards.
+GUARDS = re.compile(r"^guards: (.*)$", re.M)
 # The words of `rt` for a proof file that names what an edit removed; NAMES also matches a lemma that depends on such a file.
 GONE = re.compile(r"has no field|is not in scope|has no `")
 NAMES = re.compile(rf"{GONE.pattern}|was not admitted")
+# The declaration of a proof file that an error is in.
+ERROR_IN = re.compile(r": error: `([\w.+-]+)`")
 STILL_PROVED = "NOT REFUSED: the crate is still proved with this edit"
 BY_A_NAME = "refused, since a proof file names what it took away"
 NO_TIME = "SKIPPED: there was no time to try it"
@@ -72,15 +85,28 @@ class Edit:
     """An edit. It may share a check if it changes only the body of the function that must be refused."""
 
     name: str
+    path: pathlib.Path
     text: str
     function: str
     is_of_a_body: bool
     is_harmless: bool
 
-    def fault_of(self, fault):
-        """What is wrong with the edit, given what was wrong with it as a refusal."""
+    def guards(self):
+        """The clauses that the edit must leave unproved."""
+        return " ".join(GUARDS.findall(self.text)).split()
+
+    def guarding(self, clauses):
+        """The edit with these clauses in the place of its own, if there are any."""
+        text = GUARDS.sub("", self.text).replace("\n\n", "\n")
+        line = f"guards: {' '.join(clauses)}\n" if clauses else ""
+        return dataclasses.replace(self, text=re.sub(r"^(fn: .*\n)", rf"\1{line}", text, count=1, flags=re.M))
+
+    def fault_of(self, fault, clauses):
+        """What is wrong with the edit, given what was wrong with it as a refusal, and the clauses that it leaves unproved."""
         if not self.is_harmless:
-            return None if fault == BY_A_NAME else fault
+            lost = [it for it in self.guards() if it not in clauses]
+            lacks = f"NOT GUARDED: it leaves these proved: {' '.join(lost)}" if lost else None
+            return lacks if fault in (None, BY_A_NAME) else fault
         if fault == STILL_PROVED:
             return None
         return fault or "REFUSED: it changes nothing, so the refusals of others may be as empty"
@@ -172,7 +198,7 @@ def edits_in(folder, crate, count, is_harmless=False):
             count.add(name, f"BAD EDIT: {fault}")
         else:
             function = "".join(re.findall(r"^fn: (\S+)$", text, re.M)[:1])
-            edits.append(Edit(name, text, function, lies_in(pathlib.Path(crate.folder), text, function), is_harmless))
+            edits.append(Edit(name, path, text, function, lies_in(pathlib.Path(crate.folder), text, function), is_harmless))
     return edits
 
 
@@ -213,6 +239,13 @@ class Reading:
                     return found[2], goals
                 goals = []
         return "", []
+
+    def clauses(self, function):
+        """The clauses of the function that the check does not prove, by the names of their goals."""
+        said = self.verdict(function)[0].partition("`search` did not prove")[2]
+        errors = [it for it in self.errors(function) if not NAMES.search(it)]
+        goals = re.findall(r"`([\w.+-]+)`", said) + [it[1] for it in map(ERROR_IN.search, errors) if it]
+        return sorted({it.rpartition("-clause-")[2] if "-clause-" in it else "ensures" for it in goals if it.startswith("returns")})
 
     def errors(self, function):
         """The errors in the function's own proof files."""
@@ -337,18 +370,19 @@ class Trial:
         return Reading(ran.returncode, ran.stdout, texts), time.monotonic() - begin
 
     def heard(self, group, reading, seconds):
-        """Returns the edits that their check settles, each with why it is not refused; the others are to be tried alone."""
+        """Returns the edits that their check settles, each with why it is not refused, and the clauses that it leaves unproved.
+        The others are to be tried alone."""
         self.checks, self.seconds, self.is_warm = self.checks + 1, self.seconds + seconds, True
         if len(group) == 1:
-            return [(group[0], reading.fault_alone(group[0]))]
+            return [(group[0], reading.fault_alone(group[0]), reading.clauses(group[0].function))]
         refused = [it for it in group if reading.settles(it)]
         self.alone += [it for it in group if it not in refused]
-        return [(it, reading.fault_beside(it)) for it in refused]
+        return [(it, reading.fault_beside(it), reading.clauses(it.function)) for it in refused]
 
 
 def settled(trials, jobs, beside, last):
-    """Runs the checks in parallel, as many as processors and memory allow, and yields each edit with its crate and fault. No
-    check begins after the moment `last` of the monotonic clock."""
+    """Runs the checks in parallel, as many as processors and memory allow, and yields each edit with its crate, its fault, and the
+    clauses that it leaves unproved. No check begins after the moment `last` of the monotonic clock."""
     running = {}
     with concurrent.futures.ThreadPoolExecutor(jobs) as pool:
         while begin_checks(trials, running, pool, jobs // 2 if beside.is_running() else jobs, beside, last) or running:
@@ -356,7 +390,7 @@ def settled(trials, jobs, beside, last):
             for ended in done:
                 trial, group = running.pop(ended)
                 found = trial.heard(group, *ended.result())
-                refused = sum(fault in (None, BY_A_NAME) for _, fault in found)
+                refused = sum(fault in (None, BY_A_NAME) for _, fault, _ in found)
                 print(f"{trial.crate.name}: {refused} of {len(group)} edits refused, {ended.result()[1]:.0f} s", flush=True)
                 yield from ((trial.crate, *it) for it in found)
             if not running:
@@ -364,7 +398,7 @@ def settled(trials, jobs, beside, last):
     is_over = time.monotonic() > last
     for trial in trials:
         fault = NO_TIME if is_over else f"NOT TRIED: there is no library of {', '.join(trial.lacks(beside))} as it stands"
-        yield from ((trial.crate, it, fault) for it in trial.left())
+        yield from ((trial.crate, it, fault, []) for it in trial.left())
 
 
 def room_of(running, beside):
@@ -412,12 +446,43 @@ def trials_of(of_crates, folder, jobs):
     return sorted((Trial(*it, folder, jobs) for it in of_crates), key=lambda it: -it.need)
 
 
+def guards_of(crates):
+    """The edits that guard each clause: by the names of its function and of the clause. A method that implements one of a trait
+    guards the trait's clause."""
+    guards = collections.defaultdict(list)
+    for crate in crates:
+        for edit in edits_in(pathlib.Path(crate.folder) / "edits", crate, kit.Count()):
+            for clause in edit.guards():
+                guards[edit.function, clause].append(edit.name)
+    return guards
+
+
+def show_clauses(names, count):
+    """Prints each public clause of these crates (all if no name is given) with the edits that guard it."""
+    crates = [it for it in RT.rtlib.crates_below(str(kit.ROOT)) if it.name not in OF_TESTS and not it.is_program]
+    guards = guards_of(crates)
+    reasons = dict(line.split(": ", 1) for line in UNGUARDED.read_text(encoding="utf-8").splitlines())
+    for crate in crates:
+        for clause in public_clauses(crate) if not names or crate.name in names else []:
+            own = guards[clause.function, clause.name]
+            block, _, method = clause.function.rpartition("::")
+            impl = f"{block.rpartition('::')[2]}::{method}"
+            own = own + [name for (function, it), edits in guards.items() if it == clause.name and clause.is_of_a_trait
+                         and function.endswith(impl) for name in edits]
+            own = " ".join(own) or reasons.get(str(clause))
+            count.add(str(clause), None if own else "no edit guards it")
+            if own:
+                print(f"{clause}: {own}")
+
+
 def main():
     parser = argparse.ArgumentParser(description="Tries the edits that the prover must refuse.")
     parser.add_argument("--jobs", type=int, default=RT.processors(), help="checks side by side, where memory allows")
     parser.add_argument("--only", action="append", default=[], metavar="CRATE[/EDIT]", help="these alone")
     parser.add_argument("--keep", type=pathlib.Path, metavar="FOLDER", help="keep what is proved of the crates there")
     parser.add_argument("--list", action="store_true", help="prove nothing: tell how each edit would be tried")
+    parser.add_argument("--clauses", action="store_true", help="prove nothing: tell which edits guard each public clause")
+    parser.add_argument("--guards", action="store_true", help="write into each edit which clauses it leaves unproved")
     parser.add_argument("--anew", action="store_true", help="try also what earlier runs on this machine tried")
     parser.add_argument("--beside", type=pathlib.Path, metavar="FILE", help="rt ci still runs, until FILE is there")
     parser.add_argument("--minutes", type=float, default=math.inf, help="begin no check after so many")
@@ -425,6 +490,9 @@ def main():
     # created first: what `rt ci` builds while the edits are read counts as built in this run
     beside = Beside(given.beside)
     begin, count, kept = time.monotonic(), kit.Count(), Kept(given.anew)
+    if given.clauses:
+        show_clauses(given.only, count)
+        count.end()
     of_crates = edits_of_crates(given.only, count, kept)
     if given.list:
         print(*(it for _, edits in of_crates for it in edits), sep="\n")
@@ -435,11 +503,15 @@ def main():
     RT.rtlib.guarded()
     with tempfile.TemporaryDirectory(prefix="edits-") as room:
         trials = trials_of(of_crates, given.keep or pathlib.Path(room), given.jobs)
-        for crate, edit, fault in settled(trials, given.jobs, beside, begin + 60 * given.minutes):
+        for crate, edit, fault, clauses in settled(trials, given.jobs, beside, begin + 60 * given.minutes):
             if fault == NO_TIME:
                 count.skip(edit.name, fault)
                 continue
-            wrong = edit.fault_of(fault)
+            if given.guards and fault in (None, BY_A_NAME) and not edit.is_harmless:
+                edit = edit.guarding(clauses)
+                edit.path.write_text(edit.text, encoding="utf-8")
+                kept.holds(crate, edit)
+            wrong = edit.fault_of(fault, clauses)
             count.add(edit.name, wrong)
             if fault == BY_A_NAME and not wrong:
                 print(f"{edit.name}: {BY_A_NAME}")

@@ -98,6 +98,15 @@ def difference(found, *owed):
     return None if found in owed else f"{found} and not {' or '.join(map(str, owed))}"
 
 
+def shortened(found, owed):
+    """The difference of two runs without its megabytes: from the first byte of the output on that differs."""
+    if found == owed:
+        return None
+    same = len(os.path.commonprefix([found.out, owed.out]))
+    parts = [(it.status, len(it.out), it.out[same:same + 80], it.err[:80]) for it in [found, owed]]
+    return f"{parts[0]} and not {parts[1]}, from byte {same} on"
+
+
 def answered(*answers):
     return kit.Run(0, b"".join(answers), b"")
 

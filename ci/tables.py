@@ -285,6 +285,64 @@ def breaks():
     return [*breaks_of_both(), *allowance_breaks(), *limit_breaks(), *table_breaks(NEW_TABLES)]
 
 
+@dataclasses.dataclass(frozen=True)
+class Mend:
+    """Statements that break an office filled as by `fill`, and those that mend it again."""
+
+    breaks: str
+    mends: str
+
+
+def set_back(table, column, values, where):
+    """A value that is changed, and changed back; `values` has the new one and the old one."""
+    new, old = (f"UPDATE {table} SET {column} = {value} WHERE {where}" for value in values)
+    return Mend(new, old)
+
+
+def mends_of_both():
+    """In both versions."""
+    empty, three = (f"x'{hashlib.sha256(data).hexdigest()}'" for data in [b"", b"abc"])
+    yield Mend("UPDATE receipts SET number = 9 WHERE number = 3", "UPDATE receipts SET number = 3 WHERE number = 9")
+    yield set_back("pieces", "bytes", ["x'616264'", "x'616263'"], "name = 'a.txt'")
+    yield set_back("boxes", "used", ["used + 1", "used - 1"], "1")
+    yield set_back("boxes", "count", ["count + 1", "count - 1"], "1")
+    yield set_back("keys", "revoked", [1, 0], "role = 1 AND id <> 'c2'")
+    yield Mend("DELETE FROM pieces WHERE name = 'a.txt'", "INSERT INTO pieces VALUES ('in', 'a.txt', 0, x'616263')")
+    yield Mend("UPDATE pieces SET part = 2 WHERE part = 1", "UPDATE pieces SET part = 1 WHERE part = 2")
+    # A file is empty by its receipt, and has a piece.
+    yield Mend(f"UPDATE receipts SET length = 0, digest = {empty} WHERE number = 1; UPDATE boxes SET used = used - 3 WHERE name = 'in'",
+               f"UPDATE receipts SET length = 3, digest = {three} WHERE number = 1; UPDATE boxes SET used = used + 3 WHERE name = 'in'")
+    yield Mend("UPDATE keys SET id = 'c/2' WHERE id = 'c2'", "UPDATE keys SET id = 'c2' WHERE id = 'c/2'")
+    yield Mend("UPDATE boxes SET rule_kind = 2, rule_text = 'a' WHERE name = 'in'",
+               "UPDATE boxes SET rule_kind = 0, rule_text = '' WHERE name = 'in'")
+
+
+STAGED = "CREATE TABLE staged (part INTEGER PRIMARY KEY NOT NULL, bytes BLOB NOT NULL) STRICT"
+
+
+def mends():
+    """In the tables of version 2, and objects beside them."""
+    yield from mends_of_both()
+    yield Mend("DELETE FROM rules", "INSERT INTO rules VALUES (1, 0)")
+    yield Mend("INSERT INTO key_box VALUES ('c2', 'in')", "DELETE FROM key_box WHERE key_id = 'c2'")
+    yield Mend("INSERT INTO key_box VALUES ('k2', 'in'); UPDATE keys SET role = 1 WHERE id = 'k2'",
+               "UPDATE keys SET role = 0 WHERE id = 'k2'; DELETE FROM key_box WHERE key_id = 'k2'")
+    yield Mend("DROP TABLE staged", STAGED)
+    yield Mend("CREATE TABLE more (id INTEGER PRIMARY KEY NOT NULL) STRICT", "DROP TABLE more")
+    yield Mend("CREATE INDEX more ON files (name)", "DROP INDEX more")
+    yield Mend("CREATE VIEW more AS SELECT id FROM keys", "DROP VIEW more")
+
+
+def mends_of_versions():
+    """Another version, also with other damage."""
+    whole = "UPDATE office SET version = 2"
+    yield Mend("UPDATE office SET version = 1", whole)
+    yield Mend("UPDATE office SET version = 3", whole)
+    yield Mend("UPDATE office SET version = 7; UPDATE boxes SET used = used + 1", f"{whole}; UPDATE boxes SET used = used - 1")
+    yield Mend("UPDATE office SET version = 3; DELETE FROM rules", f"{whole}; INSERT INTO rules VALUES (1, 0)")
+    yield Mend("UPDATE office SET version = 0; DROP TABLE staged", f"{whole}; {STAGED}")
+
+
 def run(file, statements):
     with opened(file, unchecked=True) as db:
         for statement in statements:

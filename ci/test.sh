@@ -1,14 +1,14 @@
 #!/usr/bin/env bash
-# Runs all tests: `rt ci`, the must-fail edits in parallel with it, and then the tests of the built programs, with pytest. Each
-# part ends with `N passed, M failed`; a part that does not, or cannot be run, has failed. The last line is the sum of all. The
-# edits have a time limit, so that the whole ends in 180 minutes on a slow machine too: `, K skipped` then says how many are left.
+# Proves and tests everything: `rt ci`, and then the tests of the built programs, with pytest. Each part ends with `N passed, M
+# failed`; a part that does not, or cannot be run, has failed. The last line is the sum of all. The status of `rt ci` goes to the
+# file that is given, if one is: .ci/run then tries the must-fail edits in parallel with the tests.
 set -uo pipefail
 cd "$(dirname "$0")/.." || exit 2
+proved=${1:+$(realpath "$1")}
 work=$(mktemp -d)
 trap 'rm -rf "$work"' EXIT
 passed=0
 failed=0
-skipped=0
 TIMEFORMAT='%R %U %S'
 
 # Runs a part, shows its output, and keeps its output, time and status in files named after it.
@@ -23,11 +23,10 @@ run() {
 add() {
     local name=$1 status line
     read -r status <"$work/$name.status"
-    line=$(grep -E '^[0-9]+ passed, [0-9]+ failed(, [0-9]+ skipped)?$' "$work/$name.log" | tail -1)
-    if [[ $line =~ ^([0-9]+)\ passed,\ ([0-9]+)\ failed(,\ ([0-9]+)\ skipped)?$ ]]; then
+    line=$(grep -E '^[0-9]+ passed, [0-9]+ failed$' "$work/$name.log" | tail -1)
+    if [[ $line =~ ^([0-9]+)\ passed,\ ([0-9]+)\ failed$ ]]; then
         passed=$((passed + BASH_REMATCH[1]))
         failed=$((failed + BASH_REMATCH[2]))
-        skipped=$((skipped + ${BASH_REMATCH[4]:-0}))
         if [ "$status" -ne 0 ] && [ "${BASH_REMATCH[2]}" -eq 0 ]; then
             failed=$((failed + 1))
             line="$line, but status $status"
@@ -86,27 +85,23 @@ with_command man man-db
 with_command objdump binutils
 
 # These have folders and ports of their own, and measure nothing: they run in parallel.
-beside=(ci/test_{rows,replays,office,migrate,desk,respelled,lists,exports,interop,documents,guards,damage}.py)
+beside=(ci/test_{rows,replays,streams,machine,office,migrate,desk,respelled,lists,exports,interop,documents,guards,damage,changes}.py)
 # These measure time or memory, load the machine, or need all of it: they run one by one, in parallel with no other tests.
 alone=(ci/test_{serve,kills,crowd,stops,page,clerk,memory,deploy,package}.py)
 
+# Proves the crates in parallel, in the order that ends soonest; `rt ci` then takes over what was proved.
+prove() {
+    python3 -B ci/prove.py && rt ci
+}
+
 SECONDS=0
-# The edits of a crate are tried once `rt ci` has built its library, in parallel with the other parts, most of which wait for
-# servers and browsers.
-run edits python3 -B ci/edits.py --beside "$work/rt-ci.status" --minutes 120 >"$work/edits" &
-count rt-ci rt ci
+count rt-ci prove
+if [ -n "$proved" ]; then cp "$work/rt-ci.status" "$proved"; fi
 count side-by-side tests -n "$(nproc)" "${beside[@]}"
 count one-by-one tests --shots "$work/shots" "${alone[@]}"
 count drawings python3 -B ci/drawings.py --check
-wait
-cat "$work/edits"
-add edits
 echo
 cat "$work/times"
 echo "$((SECONDS / 60)) min $((SECONDS % 60)) s in all"
-if [ "$skipped" -eq 0 ]; then
-    echo "$passed passed, $failed failed"
-else
-    echo "$passed passed, $failed failed, $skipped skipped"
-fi
+echo "$passed passed, $failed failed"
 [ "$failed" -eq 0 ]

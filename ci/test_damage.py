@@ -18,7 +18,7 @@ import kit
 import tables
 from expected import ID
 from messages import get
-from program import CLERK, LINK, difference, fault
+from program import CLERK, LINK, VERSION, difference, fault
 from server import Server
 
 PAGE, BLOCK = kit.ROOT / "docs" / "USE.md", 4096  # bytes of a page of the file
@@ -213,6 +213,48 @@ def test_others(drop, check, whole):
     for number, (name, data) in enumerate(OTHERS.items()):
         rows.append((name, copy_of(whole, f"no-database-{number}", data), CANNOT_OPEN))
     check_all(drop, check, rows)
+
+
+# ---- rows that are mended, and rows that the tables bar
+
+
+def test_mended(drop, check):
+    """A file that was broken and mended again opens, with the same rows."""
+    whole = drop.filled("mended-whole")
+    rows, owed = sorted(tables.dump(whole)), manifest(drop, whole)
+    cases = [(it, DAMAGED) for it in tables.mends()] + [(it, VERSION) for it in tables.mends_of_versions()]
+
+    def each(case):
+        number, (mend, line) = case
+        file = copy_of(whole, f"mended-{number}")
+        stock(file, UNCHECKED + mend.breaks)
+        wrong = refused(drop, file, line)
+        stock(file, UNCHECKED + mend.mends)
+        return wrong or difference(manifest(drop, file), owed) or (None if sorted(tables.dump(file)) == rows else "other rows")
+
+    for (mend, _), wrong in zip(cases, kit.side_by_side(each, list(enumerate(cases))), strict=True):
+        check(f"mended: {mend.breaks}", wrong)
+
+
+# What the tables' constraints refuse, if the key `k3` is limited to the box `in`.
+BARRED = [
+    "UPDATE rules SET allowance = 901", "UPDATE rules SET allowance = -1", "UPDATE rules SET allowance = NULL",
+    "UPDATE rules SET id = 2", "INSERT INTO rules VALUES (2, 0)", "INSERT INTO key_box VALUES ('k3', 'in')",
+    "INSERT INTO key_box VALUES ('k3', 'none')", "INSERT INTO key_box VALUES ('k9', 'in')", "DELETE FROM boxes WHERE name = 'in'",
+    "UPDATE keys SET id = 'k9' WHERE id = 'k3'", "INSERT INTO staged VALUES (0, 'text')",
+]
+
+
+def test_barred(drop, check):
+    """Rows that the tables' own constraints refuse, in the engine `sqlite3`."""
+    file = drop.filled("barred")
+    rows, owed = tables.dump(file), manifest(drop, file)
+    for line in BARRED:
+        ran = kit.run(["sqlite3", "-batch", file, f"PRAGMA foreign_keys = ON; {line}"])
+        is_barred = ran.status and (b"constraint failed" in ran.err or b"cannot store TEXT value in BLOB column" in ran.err)
+        check(f"barred: {line}", None if is_barred else f"{ran}")
+    check("barred: the rows stay", None if tables.dump(file) == rows else "they were changed")
+    check("barred: the manifest", difference(manifest(drop, file), owed))
 
 
 # ---- pages

@@ -5,18 +5,17 @@ Expected values come from Python's `hashlib` and `hmac` (ci/expected.py), the ta
 lines in docs/USE.md, and links that botocore signs.
 """
 
-import dataclasses
-import itertools
 import os
 import shutil
 import time
 
 import kit
 import tables
+from days import Step, by_moment
 from expected import ID, MOMENT, OBEYED, SECRET, answer, fetched, quoted, receipt
 from messages import REQUEST, get, post, put, signed
 from orders import BotocoreOrder
-from program import CANNOT_WRITE, CLERK, DONE, IN_MEMORY, SAID_DONE, difference, fault, full_disk, malformed
+from program import CANNOT_WRITE, CLERK, DONE, IN_MEMORY, SAID_DONE, answered, difference, fault, full_disk, malformed
 from server import Server, curl, open_office
 
 LATER = "20130524T000001Z"
@@ -96,15 +95,6 @@ def stream_before():
 
 
 # ---- days at an office
-
-
-@dataclasses.dataclass(frozen=True)
-class Step:
-    """A request, its answer, and the moment."""
-
-    asked: bytes
-    owed: bytes
-    at: str = MOMENT
 
 
 def lines_day():
@@ -231,19 +221,12 @@ def allowance_day():
 DAYS = [lines_day, places_day, closing_day, keys_day, files_day, limits_day, allowance_day]
 
 
-def runs(steps):
-    """Consecutive steps at one moment: the moment, their stream and their answers."""
-    for at, together in itertools.groupby(steps, key=lambda step: step.at):
-        asked, owed = zip(*((step.asked, step.owed) for step in together))
-        yield at, b"".join(asked), b"".join(owed)
-
-
 def test_days(drop, check):
     """The first moment of each day in memory, and the whole day over a file, with one connection for each moment."""
     for day in DAYS:
         file = drop.office(day.__name__)
-        for number, (at, asked, owed) in enumerate(runs(day())):
-            want = kit.Run(0, owed, b"")
+        for number, (at, asked, owed) in enumerate(by_moment(day())):
+            asked, want = b"".join(asked), answered(*owed)
             check(f"{day.__name__} at {at}, a file", difference(drop.replay(file, asked, at=at), want))
             if number == 0:
                 check(f"{day.__name__} at {at}, in memory", difference(drop.replay(IN_MEMORY, asked, at=at), want))

@@ -6,6 +6,7 @@ Expected values come from the tables as `sqlite3` reads them and from Python's `
 that botocore signs, and from the fault lines in docs/USE.md.
 """
 
+import collections
 import contextlib
 import csv
 import dataclasses
@@ -23,7 +24,7 @@ from messages import sent
 from orders import BotocoreOrder
 from program import (
     CANNOT_OPEN, CANNOT_READ_SECRET, CANNOT_WRITE, LINK, UNKNOWN, VERSION, answered, closed_pipe, difference, fault, full_disk,
-    help_lines, help_of, malformed, not_offices,
+    help_lines, help_of, malformed, not_offices, shortened,
 )
 from samples import NAMES
 
@@ -122,6 +123,67 @@ def test_altered(drop, check):
         check(f"altered, {how}", first_difference(read(ran.out), owed) if well else f"{ran.status}, {ran.err}")
 
 
+# The place of a field in a manifest's row, another text for it, and what is said of that row.
+TEXTS = [
+    (0, b"2", b"2,in,a.txt,gone"), (0, b"9999999999", b"9999999999,in,a.txt,gone"), (0, b'"1"', b"1,in,a.txt,standing"),
+    *((1, text, b"1," + text + b",a.txt,gone") for text in [b"out", b"No Box/", b""]),
+    *((2, text, b"1,in," + text + b",gone") for text in [b"b.txt", b"", b" a.txt", b"a\0.txt", b"=a\t'.txt"]),
+    *((2, text, b"1,in," + text + b",gone") for text in [b'"a,"".txt"', b'"a\r\n.txt"', b'"a\r.txt"']),
+    (2, b'"a.txt"', b"1,in,a.txt,standing"), (2, b'"a".txt', b"1,in,a.txt,standing"), (2, b'a"."txt', b'1,in,"a"".""txt",gone'),
+    *((3, text, b"1,in,a.txt,differs") for text in [b"4", b"0", b"9999999"]), (4, b"a5" * 32, b"1,in,a.txt,differs"),
+    *((5, text, b"1,in,a.txt,standing") for text in [b"", b'"then,\nor later"']),
+    # The list may end within quotes.
+    *((6, text, b"1,in,a.txt,standing") for text in [b"", b"\xc3\xa9", b'"key', b'"key,\r\n""']),
+]
+HEAD = written([RECEIPT_HEAD])
+# What may stand in place of the head, and behind a row.
+HEADS = [
+    HEAD, b"\xef\xbb\xbf" + HEAD, b"\xef\xbb\xbf" + HEAD.replace(b"receipt", b'"receipt"'), HEAD.replace(b"\n", b"\r"),
+    HEAD.replace(b"\n", b"\r\n"), b"\n\r\n\r" + HEAD.replace(b"\n", b"\r\r\r\n\n"), HEAD.replace(b"receipt", b'"re"ceipt'),
+    written([RECEIPT_HEAD], quoting=csv.QUOTE_ALL),
+]
+ENDS = [b"", b"\r", b"\r\n", b"\n", b"\n\n\r\r\n", b"\n\r\n"]
+
+
+def test_texts(drop, check):
+    """Texts of a manifest's fields, and the forms of its head and of its end."""
+    file = drop.office("texts")
+    tables.add_box(file, tables.Box("in"))
+    tables.add_file(file, "in", "a.txt", b"abc", ID)
+    row = list(receipts(file))[1]
+    good = written([row]).removesuffix(b"\n")
+    standing = b"1,in,a.txt,standing"
+    marked = [written([changed(row, place, "MARK")]).removesuffix(b"\n") for place in range(7)]
+    given = [(HEAD + marked[place].replace(b"MARK", text), said) for place, text, said in TEXTS]
+    given += [(head + good, standing) for head in HEADS] + [(HEAD + good + end, standing) for end in ENDS]
+    for data, said in given:
+        found = drop.run("compare", file, given=data)
+        check(f"compare {data!r}", difference(found, kit.Run(0, written([STATE_HEAD]) + said + b"\n", b"")))
+
+
+def many(drop, count):
+    """An office with so many receipts for one file."""
+    file = drop.office(f"{count} receipts")
+    tables.add_box(file, tables.Box("in", mode=1))
+    digest = hashlib.sha256(b"").digest()
+    with tables.opened(file) as db:
+        rows = [(number, "in", "a.txt", 0, digest, tables.M, ID) for number in range(1, count)]
+        db.executemany("INSERT INTO receipts VALUES (?, ?, ?, ?, ?, ?, ?)", rows)
+    tables.add_file(file, "in", "a.txt", b"", ID)
+    return file
+
+
+def test_portions(drop, check):
+    """As many receipts as are held at a time, once and twice, one fewer, and one more."""
+    for count in [255, 256, 257, 512, 513]:
+        file = many(drop, count)
+        rows = list(receipts(file))
+        check(f"a manifest of {count}", unlike(drop.run("manifest", file), rows))
+        check(f"{count} compared", unlike(compared(drop, file, rows), states(file, rows)))
+        found = collections.Counter(row[3] for row in states(file, rows)[1:])
+        check(f"what is owed of {count}", difference(found, {"gone": count - 1, "standing": 1}))
+
+
 # ---- links
 
 
@@ -147,11 +209,11 @@ class Wish:
 def wishes(source):
     """Five hundred rows of every form."""
     starts = ["19700101T000000Z", "20000229T235959Z", MOMENT, "20380119T031408Z", "99991231T235959Z"]
-    names = [*NAMES, "n" * 1024, "é" * 512, '"', ",", " ", "=", "\ufeff"]
+    names = [*NAMES, "n" * 1024, "é" * 512, '"', 'a,"b', ",", " ", "=", "=a'/../é%2F?&", "\ufeff"]
     names += [odd_name(source, number) for number in range(500 - len(names))]
     for number, name in enumerate(names):
-        expires = source.choice([1, 60, 86400, 604800, source.randint(1, 604800)])
-        in_box = source.choice([*BOXES, "0", "no-box", "-.-"])
+        expires = source.choice([1, 60, 86400, 604799, 604800, source.randint(1, 604800)])
+        in_box = source.choice([*BOXES, "0", "no-box", "-.-", "-" * 63])
         yield Wish(["PUT", "GET", "HEAD"][number % 3], in_box, name, source.choice(starts), str(expires))
 
 
@@ -241,19 +303,19 @@ def test_bad_secrets(drop, check):
 GOOD_WISH = Wish("PUT", "in", "b.txt").row()
 BAD_WISHES = {
     0: ["", "DELETE", "POST", "put", "PUT ", "PATCH"],
-    1: ["", "In", "a_b", "in/a", "in ", "b" * 64, "é"],
+    1: ["", "In", "a_b", "in/a", "in ", "b" * 64, "é", "in,in"],
     2: ["", "n" * 1025, "a\nb", "a\rb", "\0", "a\x1f", "a\x7f", "\t"],
     3: ["", "now", "20130532T000000Z", "20130229T000000Z", "20130524T000060Z", "20130524t000000z", "19691231T235959Z",
-        "100000101T000000Z", "20130524T000000", " 20130524T000000Z"],
-    4: ["", "0", "01", "604801", "99999999999999999999", "-1", "+1", "1.0", "1e3", " 1", "²", "0x1"],
+        "100000101T000000Z", "20130524T000000", " 20130524T000000Z", "2013-05-24T00:00:00Z"],
+    4: ["", "0", "01", "604801", "1000000", "99999999999999999999", "-1", "+1", "1.0", "1e3", " 1", "1 ", "1,", "²", "１", "0x1"],
 }
 BAD_RECEIPTS = {
     0: ["", "0", "01", "00", "-1", "+1", "1.0", "0x1", " 1", "1 ", "²", "１", "10000000000", "99999999999999999999"],
-    3: ["", "00", "03", "-3", "+3", " 3", "3 ", "3.0", "10000000", "²"],
+    3: ["", "00", "03", "-3", "+3", " 3", "3 ", "3.0", "3\0", "10000000", "²"],
     4: ["", "a" * 63, "a" * 65, "A" * 64, "g" * 64, "a" * 63 + " ", "é" * 32],
 }
 # Bytes in place of a name that are no text.
-NO_TEXTS = [b"\xff", b"a\xc3", b"\xed\xa0\x80", b"\xc0\x80", b"\xf4\x90\x80\x80", b'"\xe9"']
+NO_TEXTS = [b"\xff", b"\xc3", b"a\xc3", b"\xed\xa0\x80", b"\xc0\x80", b"\xf4\x90\x80\x80", b'"\xe9"']
 
 
 def changed(row, place, value):
@@ -265,25 +327,31 @@ def bad_rows(row, values):
     for place, texts in values.items():
         for text in texts:
             yield written([changed(row, place, text)])
+    for place in range(len(row)):
+        for data in NO_TEXTS:
+            yield written([changed(row, place, "MARK")]).replace(b"MARK", data)
     marked = written([changed(row, 2, "MARK")])
-    for data in NO_TEXTS:
-        yield marked.replace(b"MARK", data)
-    for others in [row[:-1], row[:1], [*row, ""], [*row, "more"], [" "], [""], row * 2]:
+    several = [row[:-1], row[:1], [*row, ""], [*row, "more"], [" "], [""], row * 2]
+    for others in [*several, [""] * (len(row) - 1), [""] * (len(row) + 1)]:
         yield written([others])
     # Quotes without an end, and one row that is cut in two.
-    yield marked.replace(b"MARK", b'"a')
-    yield marked.replace(b"MARK", b"a\rb")
+    for data in [b'"a', b"a\rb", b"a\nb", b'"a\nb"x,']:
+        yield marked.replace(b"MARK", data)
 
 
 def bad_heads(head):
     """Lists without their head."""
     row = written([head])
-    for names in [head[:-1], [*head, ""], [*head, "more"], head[::-1], [it.upper() for it in head], [f" {head[0]}", *head[1:]]]:
+    for names in [head[:-1], [*head, ""], [*head, "more"], head[::-1], [it.upper() for it in head], [f" {head[0]}", *head[1:]],
+                  [*head[:-2], head[-1], head[-2]], [head[0].capitalize(), *head[1:]], [*head[:-1], f"{head[-1]} "],
+                  [head[0], f" {head[1]}", *head[2:]], STATE_HEAD, LINK_HEAD]:
         yield written([names])
     yield from [b"", b"\n", b"\r\n\r\n", b"\xef\xbb\xbf", b"\xef\xbb\xbf\xef\xbb\xbf" + row, b"\n\xef\xbb\xbf" + row, b" \n" + row]
     yield from [row.replace(b",", b";"), row.replace(b",", b"\t"), row.replace(b"\n", b"\0\n"), row.replace(b"\n", b"\xff\n")]
     yield b'"' + row
     yield row.rstrip() + b'"\n'
+    yield row.replace(head[-1].encode(), b'"' + head[-1].encode())
+    yield row.replace(head[-1].encode(), b"\xff")
 
 
 def refused(number, rows):
@@ -424,14 +492,6 @@ def test_examples(drop, check):
     check("the example's link", unlike(found, [LINK_HEAD, [*row, link]]))
     for command, head in [("manifest", RECEIPT_HEAD), ("compare", STATE_HEAD)]:
         check(f"the head of {command}", None if ",".join(head) in help_lines(command) else "it is not shown")
-
-
-def shortened(found, owed):
-    """The difference without its megabytes."""
-    if found == owed:
-        return None
-    parts = (found.status, len(found.out), found.out[:80], found.err[:80])
-    return f"{parts} and not {(owed.status, len(owed.out), owed.out[:80], owed.err[:80])}"
 
 
 def test_great_fields(drop, check):

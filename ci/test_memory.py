@@ -1,6 +1,6 @@
 """Runs the proved programs with each allocation refused, one at a time.
 
-The programs that `rt ci` builds from crates/drop, crates/rows and the tests of crates/keeper run unchanged, with ci/heap.c
+The programs that `rt ci` builds from crates/drop, crates/rows and the tests of crates/streams run unchanged, with ci/heap.c
 loaded before the C library. The allocations are refused one per run, from number 1 up to the first number at
 which none is left; for `init`, `desk`, `link`, `migrate` and lists over an office file, only a sample of them. The program must
 return its whole right answer, or report the lack of memory in the way expected there, and never anything else. What the
@@ -27,6 +27,7 @@ from expected import ID, MOMENT, OBEYED, SECRET, answer, fetched, python_link, r
 from kept import VERSION_1, Kept
 from messages import CUT_UPLOAD, REQUEST, get, post, put
 from program import IN_MEMORY, LINK, answered, fault, help_of
+from steps import Step, commands, opens, states_of, take_out, uploads
 
 STREAM = "data/row1.http"
 DROP = kit.ROOT / "crates" / "drop"
@@ -175,15 +176,6 @@ def test_offices(program, tmp_path, check):
 
 
 @dataclasses.dataclass(frozen=True)
-class Step:
-    """A request, its answer, and what it does to the tables of an office file."""
-
-    asked: bytes
-    owed: bytes
-    does: object = None
-
-
-@dataclasses.dataclass(frozen=True)
 class Probe:
     """A request that shows what an office holds: its answers, each with the number of done steps from which it is expected."""
 
@@ -201,34 +193,6 @@ class Session:
     name: str
     steps: tuple
     probes: tuple = ()
-
-
-def opens(name, quota=100, files=2, mode="keep"):
-    box = tables.Box(name, tables.OPENS, tables.CLOSES, quota=quota, max_files=files, mode=int(mode == "replace"))
-    line = f"box add {name} 20130101T000000Z 20130601T000000Z 1111111 0000 2400 {quota} {files} {mode} any"
-    return Step(post(line), OBEYED, functools.partial(tables.add_box, box=box))
-
-
-def take_out(file, box, name, length):
-    """Changes the tables as dropping this file must."""
-    where = f"WHERE box = '{box}' AND name = '{name}'"
-    tables.run(file, [f"DELETE FROM pieces {where}", f"DELETE FROM files {where}",
-                      f"UPDATE boxes SET used = used - {length}, count = count - 1 WHERE name = '{box}'"])
-
-
-def uploads(number, box, name, data, instead_of=None):
-    """An accepted upload, of a new file or in place of another."""
-    def does(file):
-        if instead_of is not None:
-            take_out(file, box, name, len(instead_of))
-        tables.add_file(file, box, name, data, ID)
-
-    return Step(put(f"/{box}/{name}".encode(), data), receipt(number, data), does)
-
-
-def commands(line, *statements):
-    """A desk command, and its effect in SQL."""
-    return Step(post(line), OBEYED, functools.partial(tables.run, statements=statements))
 
 
 A, LARGE = b"/in/a.txt", bytes(range(256)) * 274
@@ -328,17 +292,6 @@ def over_file(program, stream, runs, whole, states):
     return one
 
 
-def states_of(session, whole, file):
-    """The tables after each number of steps, by Python's `sqlite3`."""
-    shutil.copy(whole, file)
-    states = [sorted(tables.dump(file))]
-    for step in session.steps:
-        if step.does:
-            step.does(file)
-        states.append(sorted(tables.dump(file)))
-    return states
-
-
 def each_number(one, begin):
     """The result for each number, up to the first without an allocation to refuse; many run in parallel."""
     for first in itertools.count(begin, 32):
@@ -380,7 +333,7 @@ def test_sessions(program, tmp_path, check):
         streams = [stream, second] if session.probes else [stream]
         one = in_memory(program, streams, bearable(session, session.probes))
         total += swept(f"{session.name}, in memory", one, right_run(session, session.probes), check)[0]
-        states = states_of(session, whole, tmp_path / f"states-{number}")
+        states = states_of(session.steps, shutil.copy(whole, tmp_path / f"states-{number}"), lambda file: sorted(tables.dump(file)))
         one = over_file(program, stream, bearable(session, ()), whole, states)
         refused, answered = swept(f"{session.name}, over a file", one, right_run(session, ()), check, begin)
         total, begin = total + refused, begin if number else max(1, answered - 32)
@@ -461,8 +414,8 @@ def test_rows(check):
 
 def test_keeper(check):
     """Each call of the keeper in memory, by the test that repeats a call to which memory was refused."""
-    program = kit.built("keeper", "_tests")
-    name = "shelf_keeps::tests::keeps_each_change"
+    program = kit.built("streams", "_tests")
+    name = "in_memory::keeps_each_change"
     right, again = (kit.Run(0, f"{number} refused\n\ntest result: ok\n".encode(), b"") for number in (0, 1))
     try:
         came = each_refusal([program, name], b"", right, [again])

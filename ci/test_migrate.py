@@ -6,6 +6,7 @@ now, byte for byte. Fault lines come from docs/USE.md, and Python's `sqlite3` re
 
 import functools
 import random
+import re
 import shutil
 import signal
 import subprocess
@@ -211,6 +212,48 @@ def test_broken(drop, check):
         check(f"broken: {name}", wrong)
 
 
+def test_mended(drop, check):
+    """A file that was broken is refused, and once it is mended it is migrated."""
+    kept = Kept(VERSION_1 / "filled")
+    for number, mend in enumerate(tables.mends_of_both()):
+        file = copied(drop, kept, f"-mended-{number}")
+        rows = rows_of(file)
+        tables.run(file, mend.breaks.split("; "))
+        refused(drop, check, f"broken: {mend.breaks}", file, DAMAGED)
+        tables.run(file, mend.mends.split("; "))
+        check(f"mended: {mend.breaks}, the rows", None if rows_of(file) == rows else "they are others")
+        check(f"mended: {mend.breaks}", difference(migrate(drop, file), SAID_DONE))
+        check(f"mended: {mend.breaks}, the manifest", difference(drop.run("manifest", file), kit.Run(0, kept.manifest, b"")))
+
+
+# Numbers out of range in tables that do not bar them.
+LOOSE = [
+    "UPDATE keys SET role = 7 WHERE id = 'k2'", "UPDATE keys SET revoked = 2 WHERE id = 'k2'", "UPDATE office SET east = 841",
+    "UPDATE office SET east = -841", "UPDATE office SET id = 2", "INSERT INTO office VALUES (2, 1, 60)",
+]
+
+
+def loosened(drop, kept, name):
+    """A copy without the CHECKs of two tables: then the engine does not notice numbers out of range, only the office does."""
+    file = copied(drop, kept, name)
+    for table in ["office", "keys"]:
+        [(text,)] = tables.rows(file, "SELECT sql FROM sqlite_schema WHERE name = ?", table)
+        tables.write_text(file, table, re.sub(r" CHECK \([^()]*\)", "", text))
+        assert "CHECK" not in tables.rows(file, "SELECT sql FROM sqlite_schema WHERE name = ?", table)[0][0]
+    return file
+
+
+def test_loose(drop, check):
+    kept = Kept(VERSION_1 / "filled")
+    for number, line in enumerate(LOOSE):
+        file = loosened(drop, kept, f"-loose-{number}")
+        tables.run(file, [line])
+        refused(drop, check, f"loose: {line}", file, DAMAGED)
+    file = loosened(drop, kept, "-loose")
+    check("loose, and whole", difference(migrate(drop, file), SAID_DONE))
+    check("loose, the manifest", difference(drop.run("manifest", file), kit.Run(0, kept.manifest, b"")))
+
+
 # Tables, views and indexes that have the name of a new table.
 TAKEN = [
     *(f"CREATE TABLE {name} (id INTEGER PRIMARY KEY) STRICT" for name in tables.NEW_TABLES),
@@ -245,6 +288,13 @@ def test_versions(drop, check):
         file = copied(drop, Kept(VERSION_1 / "filled"), f"-version-{number}")
         tables.run(file, [f"UPDATE office SET version = {version}", *others])
         refused(drop, check, f"version {version} {others}", file, *owed)
+    whole = drop.filled("whole")
+    for number, (version, others, owed) in enumerate([
+        (3, [], VERSION), (0, [], VERSION), (-1, ["UPDATE receipts SET length = 1048577 WHERE number = 3"], VERSION), (1, [], DAMAGED),
+    ]):
+        file = shutil.copy(whole, drop.path(f"new-version-{number}"))
+        tables.run(file, [f"UPDATE office SET version = {version}", *others])
+        refused(drop, check, f"tables of version 2 that say {version} {others}", file, owed)
 
 
 def test_not_offices(drop, check):

@@ -441,7 +441,8 @@ def test_allowance(drop, check):
 def test_pieces(drop, check):
     """Files of several sizes, each with its expected pieces."""
     file = limited(drop, "pieces", tables.Box("in", quota=10**12, max_files=9))
-    for number, size in enumerate([10**6, 65536, 65537, 1048577, 8388608, 0, 1], 1):
+    sizes = [10**6, 65536, 65537, 1048576, 1048577, 8388608, 0, 1]
+    for number, size in enumerate(sizes, 1):
         data = b"a" * size
         path = f"/in/{size}".encode()
         check(f"{size} bytes", difference(drop.replay(file, put(path, data)), answered(receipt(number, data))))
@@ -450,6 +451,7 @@ def test_pieces(drop, check):
         owed = [(part, min(tables.PIECE, size - at)) for part, at in enumerate(range(0, size, tables.PIECE))]
         check(f"pieces of {size} bytes", None if found == owed else f"{found} and not {owed}")
         check(f"GET {size} bytes", difference(drop.replay(file, get(path)), answered(fetched(number, data))))
+    check("the totals", difference(tables.rows(file, "SELECT used, count FROM boxes"), [(sum(sizes), len(sizes))]))
     found = drop.replay(file, put(b"/in/more", b"a" * 8388609))
     check("8388609 bytes", difference(found, answered(answer(5))))
 

@@ -12,8 +12,9 @@ import string
 import pytest
 
 import kit
-from expected import MOMENT, PUBLISHED, QUERY, SIGNATURE, answer
-from messages import CUT_UPLOAD, HOST, LENGTH, REQUEST, SIX, changed, signed
+import tables
+from expected import MOMENT, PUBLISHED, QUERY, SIGNATURE, answer, receipt
+from messages import CUT_UPLOAD, HOST, LENGTH, REQUEST, SIX, changed, put, signed
 from program import IN_MEMORY, answered, closed_pipe, difference, fault, full_disk, help_of
 
 SIGNED = QUERY + b"&X-Amz-Signature=" + SIGNATURE
@@ -400,3 +401,33 @@ def test_failing_output(drop, check):
             with failing() as file:
                 found = drop.run(*words, err=file)
             check(f"drop {words} with errors to a {failing.__name__}", difference(found, owed))
+        with failing() as file:
+            found = drop.run(*replay, out=file, err=file)
+        check(f"drop {replay} with all to a {failing.__name__}", difference(found, kit.Run(1, b"", b"")))
+
+
+def closing(drop, descriptors, words):
+    """A run that begins with these descriptors closed."""
+    closed = " ".join(f"{it}>&-" for it in descriptors)
+    return kit.run(["sh", "-c", f'exec "$0" "$@" {closed}', drop.program, *words], cwd=drop.folder)
+
+
+def test_closed_output(drop, check):
+    """Standard output, standard error or both are closed from the start. What an office file holds stays whole."""
+    stream = drop.path("upload.http")
+    stream.write_bytes(put(b"/in/a.txt", b"abc"))
+    for descriptors, owed in [
+        ([1], fault("a connection failed")), ([2], answered(receipt(1, b"abc"))), ([1, 2], kit.Run(1, b"", b"")),
+    ]:
+        file = drop.office(f"closed {descriptors}")
+        tables.add_box(file, tables.Box("in"))
+        found = closing(drop, descriptors, ["replay", file, stream, "--at", MOMENT])
+        check(f"a file, with {descriptors} closed", difference(found, owed))
+        rows = tables.rows(file, "SELECT number, name, length FROM receipts")
+        check(f"what it holds, with {descriptors} closed", difference(rows, [(1, "a.txt", 3)]))
+        owed = owed if 1 in descriptors else refused(27)
+        found = closing(drop, descriptors, ["replay", IN_MEMORY, stream, "--at", MOMENT])
+        check(f"in memory, with {descriptors} closed", difference(found, owed))
+        found = closing(drop, descriptors, ["replay", IN_MEMORY, stream, "--at", "now"])
+        owed = kit.Run(1, b"", b"") if 2 in descriptors else fault("malformed value: at")
+        check(f"a fault, with {descriptors} closed", difference(found, owed))

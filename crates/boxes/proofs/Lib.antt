@@ -1,17 +1,9 @@
-pub mod Weekdays
 pub mod Lookups
 pub mod LimitedKeys
-pub mod LimitEdges
 pub mod MapLemmas
 pub mod FileBoxes
 pub mod SoundFirstState
-pub mod HourEdges
-pub mod NameEdges
-pub mod UploadEdges
-pub mod StepEdges
-pub mod ChangeEdges
 pub mod CommandSteps
-pub mod SoundEdges
 pub mod EntrySums
 pub mod FileTotals
 pub mod NoBox

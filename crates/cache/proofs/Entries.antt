@@ -10,10 +10,10 @@ use Rattle.std.specs.Ordering.{is_eq, eq_by_cmp}
 use Rattle.std.specs.Cmp.{tied_itself}
 use Rattle.sigtext.specs.Bytes.{bytes_cmp}
 use Rattle.boxes.proofs.Lookups.{bytes_total, bytes_same, equal_is, some_none}
-use Rattle.keeper.specs.Maps.{found, Sets}
-use Rattle.keeper.specs.Shelves.{bytes_of, has_box}
-use Rattle.keeper.proofs.MapLemmas.{found-tied, sets_of}
-use Rattle.keeper.proofs.LimitLemmas.{has_after}
+use Rattle.shelf.specs.Maps.{found, Sets}
+use Rattle.shelf.specs.Shelves.{bytes_of, has_box}
+use Rattle.shelf.proofs.MapLemmas.{found-tied, sets_of}
+use Rattle.shelf.proofs.LimitLemmas.{has_after}
 use Rattle.cache.specs.declared.cache.CachedBox.{CachedBox}
 use Rattle.boxes.specs.declared.totals.Totals.{Totals}
 use Rattle.cache.specs.Recalled.{IsPart, IsPut, Lacks, HasTotals}

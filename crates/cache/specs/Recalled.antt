@@ -9,7 +9,7 @@ use Rattle.boxes.specs.Rows.{IsOfficeOf, key_of, settings_of}
 use Rattle.boxes.specs.declared.totals.Totals.{Totals}
 use Rattle.boxes.specs.State.{State}
 use Rattle.boxes.specs.Views.{AreTotals}
-use Rattle.keeper.specs.Shelves.{bytes_of, has_box}
+use Rattle.shelf.specs.Shelves.{bytes_of, has_box}
 use Rattle.cache.specs.declared.cache.CachedKey.{CachedKey}
 use Rattle.cache.specs.declared.cache.CachedBox.{CachedBox}
 use Rattle.cache.specs.declared.cache.Cache.{Cache}

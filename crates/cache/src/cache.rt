@@ -5,12 +5,13 @@ ghost use Rattle.boxes.specs.Limits.{MayUse};
 ghost use Rattle.boxes.specs.Rows.{IsOfficeOf, key_of, settings_of};
 ghost use Rattle.boxes.specs.State.{State};
 ghost use Rattle.boxes.specs.Views.{AreTotals};
-ghost use Rattle.keeper.specs.Shelves.{has_box};
+ghost use Rattle.shelf.specs.Shelves.{has_box};
 ghost use Rattle.cache.specs.Recalled.{IsPart, IsPut, HasTotals, Recalls, RecallsBoxes, RecallsKeys};
 
 use crate::last_size::LastSize;
 use boxes::{BoxRow, KeyRow, OfficeRow, Totals};
-use keeper::{KeepFault, copy_box, copy_key};
+use keeper::KeepFault;
+use shelf::{copy_box, copy_key};
 use std::alloc::{AllocError, Global};
 use std::collections::{BTreeMap, BTreeSet};
 

@@ -3,7 +3,8 @@ ghost use Rattle.std.specs.Prelude.{◌≤◌, length};
 
 use boxes::{Change, Command, Mode, NewFile, Role};
 use cache::CachedKeeper;
-use keeper::{KeepFault, Keeper, Shelf};
+use keeper::{KeepFault, Keeper};
+use shelf::Shelf;
 use std::alloc::Global;
 use std::test::Fail;
 use trials::boxed::{add_box, office_row, settings};

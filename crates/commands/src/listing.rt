@@ -3,16 +3,16 @@ ghost use Rattle.std.specs.Prelude.{◌≡◌, IfOk, IsOk, IsTrue, Some};
 ghost use Rattle.std.specs.Io.KnownBytes.{Keeps};
 ghost use Rattle.boxes.specs.Sound.{IsSound};
 ghost use Rattle.boxes.specs.State.{State};
-ghost use Rattle.desk.specs.Lists.{by_keeper};
+ghost use Rattle.manifests.specs.Lists.{by_keeper};
 ghost use Rattle.keeper.specs.Bound.{StaysBy};
 ghost use Rattle.commands.specs.Listing.{IsListOf, WritesStock};
 
 use crate::faults::Fault;
 use crate::signing::KeyWork;
 use crate::work::{Done, OfficeWork};
-use desk::{ListFault, compare, links_from, manifest};
 use links::LinkKey;
 use lists::{list_boxes, list_files, list_keys};
+use manifests::{ListFault, compare, links_from, manifest};
 use rolls::Rolls;
 use std::alloc::Global;
 use std::io::{BufWriter, Read, Write};

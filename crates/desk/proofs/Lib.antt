@@ -1,13 +1,5 @@
-pub mod Entries
-pub mod Portions
-pub mod ReceiptLines
-pub mod CsvLines
-pub mod AnsweredLists
 pub mod Words
 pub mod NineTexts
 pub mod Commands
 pub mod RuleWords
 pub mod OneCommand
-pub mod Examples
-pub mod RecordFields
-pub mod Wishes

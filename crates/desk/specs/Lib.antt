@@ -1,8 +1,3 @@
 pub mod Finds
 pub mod Texts
 pub mod Lines
-pub mod Lists
-pub mod Manifests
-pub mod LinkLists
-pub mod Answering
-pub mod Asking

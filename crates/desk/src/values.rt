@@ -97,7 +97,7 @@ pub(crate) fn read_minute(word: &[u8]) -> Option<u16>
 }
 
 /// A whole number of 1 to 13 digits. Only `0` itself may begin with a zero.
-pub(crate) fn read_number(text: &[u8]) -> Option<u64>
+pub fn read_number(text: &[u8]) -> Option<u64>
     ensures some { IfSome result (IsNumber text.now) }
     ensures none { IfNone result ((n : ℕ) → IsNumber text.now n → ⊥) }
 {

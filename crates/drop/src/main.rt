@@ -6,14 +6,12 @@ use std::io::ErrorKind;
 use std::process::ExitCode;
 use std::{env, io};
 
-#[cfg(test)]
-mod tests;
-
 fn perform_words(rt: &HostRuntime) -> io::Result<u8> {
     let words: Vec<String> = env::args(rt)?.collect(rt.alloc())?;
     let words: Vec<&str> = words.iter().map(|word| word.as_str()).collect(rt.alloc())?;
     let (input, out, err) = (rt.stdin(), rt.stdout(), rt.stderr());
-    Ok(perform(rt, &words, input, out, err, Unknown, Machine { rt }).status)
+    let performed = perform(rt, &words, input, out, err, Unknown, Machine { rt });
+    Ok(performed.into_status())
 }
 
 fn main(rt: HostRuntime) -> ExitCode {

@@ -43,7 +43,7 @@ use Rattle.dropoffice.specs.Leaving.{IsClosed, IsLooked, IsSpared, LeavesOffice,
 use Rattle.dropoffice.specs.declared.opening.Left.{Left}
 use Rattle.dropoffice.specs.declared.opening.Left.TheVariants as left
 
--- The command ran. Or it failed before its work began, and the files are as they were. Idle: what is known then.
+-- The command ran. Or it failed before its work began, and what is left of the files was spared. Idle: what is known then.
 abbrev pub MayRun : {F D : Type 0} {g : disk.Ghosts D} → Image → F → Left F D g → Type 0 → (Office → Office → Asked → Type 0) → Type 0
 MayRun image start rest Idle Step = Ran image rest Step ⊎ (Idle × IsSpared image start (ShowsHeld image (HoldsState image)) rest)
 
@@ -131,7 +131,7 @@ pub record HoldsBare (image : Image) : Type 0 where
   pub holds : (db : Trees) → HoldsDatabase image db → trees ≡ db
   pub bare : IsDatabase (record { schema = s0; trees = trees })
 
--- the same, where the files held no tables
+-- the first state of the words, where the files held no tables
 pub record MayBeMade (words : Init) (image : Image) (s : Office) : Type 0 where
   pub held : HoldsBare image
   pub first : IsFirstOf words s

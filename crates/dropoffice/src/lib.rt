@@ -10,11 +10,11 @@ mod works;
 pub use commands::{Ending, Fault, Machine, Outside};
 pub use office::{
     Answer, Clock, Counted, DeskFault, FixedClock, ListedClock, MachineClock, Message, Office,
-    Replayed, SessionEnd, law_of_acts, law_of_alike, law_of_replies, replay_bytes,
-    replay_in_memory, replay_over,
+    SessionEnd, law_of_acts, law_of_alike, law_of_replies,
 };
 pub use opening::Left;
 pub use program::{Performed, perform};
+pub use replays::{Replayed, replay_bytes, replay_in_memory, replay_over};
 pub use sockets::{Limits, Outcome, Served, serve};
 pub use sqlite::{Start, Unknown};
 pub use tasks::{

@@ -44,6 +44,23 @@ pub struct Performed<W, N, L, E, C, S, D: Disk> {
     pub left: Left<S, D>,
 }
 
+impl<W: Drop, N: Drop, L: Drop, E: Drop, C: Drop, S: Drop, D: Disk + Drop> Performed<
+    W,
+    N,
+    L,
+    E,
+    C,
+    S,
+    D,
+> {
+    /// Drops what is left, which closes the file, and returns the exit status.
+    pub fn into_status(self) -> u8
+        ensures { result ≡ self.status }
+    {
+        self.status
+    }
+}
+
 // The same before its fault is told.
 #[derive(Drop)]
 struct Ended<W, N, L, E, C, S, D: Disk> {

@@ -12,8 +12,8 @@ use Rattle.boxes.specs.declared.rows.FileRow.{FileRow}
 use Rattle.boxes.proofs.NoBox.{all_at}
 use Rattle.wire.specs.Sending.{Sends}
 use Rattle.wire.proofs.Written.{sends_both}
-use Rattle.desk.specs.Lists.{line}
-use Rattle.desk.proofs.AnsweredLists.{lines_joined, lines_none, lines_push, sends_nothing, sends_whole}
+use Rattle.manifests.specs.Lists.{line}
+use Rattle.manifests.proofs.AnsweredLists.{lines_joined, lines_none, lines_push, sends_nothing, sends_whole}
 use Rattle.exports.specs.Exports.{IsPut, IsRecord, IsRow, IsSum, SendsFiles, Shown}
 use Rattle.exports.specs.Faults.{if_put, IsOfAsking, was_put}
 use Rattle.exports.specs.Folders.{Adds, PutFile}

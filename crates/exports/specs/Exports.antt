@@ -10,7 +10,7 @@ use Rattle.sigv4.specs.Hmac.{sha256}
 use Rattle.boxes.specs.State.{File, Place, place_cmp, Receipt, State}
 use Rattle.boxes.specs.Steps.{HasReceipt}
 use Rattle.wire.specs.Sending.{Sends}
-use Rattle.desk.specs.Lists.{line, AreLines, IsTable}
+use Rattle.manifests.specs.Lists.{line, AreLines, IsTable}
 use Rattle.lists.specs.Written.{AreFirst}
 use Rattle.exports.specs.Folders.{Adds, PutFile}
 use Rattle.exports.specs.Names.{IsExportName, IsFolderName}

@@ -1,5 +1,2 @@
 pub mod Keeping
-pub mod Maps
-pub mod Shelves
-pub mod OneState
 pub mod Bound

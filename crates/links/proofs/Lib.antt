@@ -1,7 +1,6 @@
 pub mod ServedMethods
 pub mod Values
 pub mod Parts
-pub mod Signing
 pub mod SixLemmas
 pub mod SixForms
 pub mod SixPieces

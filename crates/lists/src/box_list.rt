@@ -9,15 +9,15 @@ ghost use Rattle.boxes.specs.State.{State};
 ghost use Rattle.boxes.specs.Views.{AreTotals};
 ghost use Rattle.keeper.specs.Bound.{StaysBy};
 ghost use Rattle.rolls.specs.Next.{IsBox, IsNext};
-ghost use Rattle.desk.specs.Asking.{Meant};
-ghost use Rattle.desk.specs.Lists.{by_keeper, by_writer, IsOfAnswering, IsOfManifest};
+ghost use Rattle.manifests.specs.Asking.{Meant};
+ghost use Rattle.manifests.specs.Lists.{by_keeper, by_writer, IsOfAnswering, IsOfManifest};
 ghost use Rattle.lists.specs.Boxes.{boxes_head, IsBoxLine, IsTotalsLine};
 ghost use Rattle.lists.specs.Written.{SendsLines, WritesList};
 
 use crate::words::{days_text, minute_text, mode_text, rule_text};
 use boxes::{BoxRow, Totals};
-use desk::{ListFault, line_of, moment_text, send_line, send_text};
 use itoa::Buffer;
+use manifests::{ListFault, line_of, moment_text, send_line, send_text};
 use rolls::Rolls;
 use std::alloc::Global;
 use std::io::Write;

@@ -9,15 +9,15 @@ ghost use Rattle.boxes.specs.Sound.{IsSound};
 ghost use Rattle.boxes.specs.State.{State};
 ghost use Rattle.keeper.specs.Bound.{StaysBy};
 ghost use Rattle.rolls.specs.Next.{IsKey, IsNext};
-ghost use Rattle.desk.specs.Asking.{Meant};
-ghost use Rattle.desk.specs.Lists.{line, by_keeper, by_writer, IsOfAnswering, IsOfManifest};
+ghost use Rattle.manifests.specs.Asking.{Meant};
+ghost use Rattle.manifests.specs.Lists.{line, by_keeper, by_writer, IsOfAnswering, IsOfManifest};
 ghost use Rattle.desk.specs.Texts.{role_word};
 ghost use Rattle.lists.specs.Keys.{answer_word, keys_head, AreLimits, IsKeyLine, IsLast};
 ghost use Rattle.lists.specs.Written.{SendsLines, WritesList};
 
 use crate::words::{answer_text, joined, role_text};
 use boxes::KeyRow;
-use desk::{ListFault, line_of, send_line, send_text};
+use manifests::{ListFault, line_of, send_line, send_text};
 use rolls::Rolls;
 use std::alloc::Global;
 use std::io::Write;

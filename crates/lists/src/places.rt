@@ -3,11 +3,11 @@ ghost use Rattle.std.specs.Prelude.{IfErr, IfOk, option_map};
 ghost use Rattle.boxes.specs.State.{place_cmp, Place, State};
 ghost use Rattle.keeper.specs.Bound.{StaysBy};
 ghost use Rattle.rolls.specs.Next.{IsFile, IsNext};
-ghost use Rattle.desk.specs.Asking.{Meant};
-ghost use Rattle.desk.specs.Lists.{by_keeper, IsOfAnswering};
+ghost use Rattle.manifests.specs.Asking.{Meant};
+ghost use Rattle.manifests.specs.Lists.{by_keeper, IsOfAnswering};
 ghost use Rattle.lists.specs.Places.{place_in, IsFirstPast};
 
-use desk::ListFault;
+use manifests::ListFault;
 use rolls::Rolls;
 use std::alloc::Global;
 

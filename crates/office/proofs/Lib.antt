@@ -1,5 +1,3 @@
-mod Admission
-mod RuleEdges
 pub mod Alikeness
 pub mod Answered
 pub mod Deciding
@@ -8,15 +6,11 @@ pub mod Forming
 pub mod Handlings
 pub mod Holding
 pub mod Judged
-pub mod Marked
-pub mod ReplayLemmas
 pub mod Replies
 pub mod RunSoFar
-pub mod SessionEdges
 pub mod SessionSteps
 pub mod SoundOffice
 pub mod ToldMoments
-pub mod Turns
 pub mod Without
 pub mod Obeyed
 pub mod Possible

@@ -2,7 +2,6 @@
 pub mod crowding;
 mod handling;
 mod receiving;
-pub mod replay;
 pub mod run;
 pub mod seat;
 pub mod session;

@@ -11,7 +11,6 @@ pub mod requests;
 
 pub use clocks::{Clock, FixedClock, ListedClock};
 pub use connections::crowding::{Crowd, Due};
-pub use connections::replay::{Replayed, replay_bytes, replay_in_memory, replay_over};
 pub use connections::seat::Seat;
 pub use connections::session::SessionEnd;
 pub use connections::slots::{

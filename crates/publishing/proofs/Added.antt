@@ -7,11 +7,11 @@ use Rattle.boxes.specs.Changes.{IsChangeOf, IsFileSet, MayChange, upload_in}
 use Rattle.boxes.specs.declared.change.Change.{Change}
 use Rattle.boxes.specs.declared.change.Change.TheVariants as change
 use Rattle.boxes.specs.declared.change.NewFile.{NewFile}
-use Rattle.keeper.specs.Shelves.{set_receipt}
-use Rattle.keeper.proofs.ShelfLemmas.{numbered-push}
-use Rattle.desk.specs.Lists.{line, AreLines, IsTable}
-use Rattle.desk.specs.Manifests.{manifest_head, IsReceiptLine}
-use Rattle.desk.proofs.AnsweredLists.{lines_joined}
+use Rattle.shelf.specs.Shelves.{set_receipt}
+use Rattle.shelf.proofs.ShelfLemmas.{numbered-push}
+use Rattle.manifests.specs.Lists.{line, AreLines, IsTable}
+use Rattle.manifests.specs.Manifests.{manifest_head, IsReceiptLine}
+use Rattle.manifests.proofs.AnsweredLists.{lines_joined}
 use Rattle.publishing.specs.Published.{AddsAll, IsPublished}
 
 pub on_ok_more : {T E A B : Type 0} (r : Result T E) → OnOk r A → (A → B) → OnOk r B

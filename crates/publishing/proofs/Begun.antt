@@ -6,10 +6,10 @@ use Rattle.boxes.specs.State.{Receipt, State}
 use Rattle.boxes.specs.Rows.{numbered}
 use Rattle.boxes.specs.Changes.{IsFileSet}
 use Rattle.boxes.specs.declared.change.NewFile.{NewFile}
-use Rattle.keeper.specs.Shelves.{set_receipt}
-use Rattle.desk.specs.Lists.{line, AreLines, IsTable}
-use Rattle.desk.specs.Manifests.{manifest_head, IsReceiptLine}
-use Rattle.desk.proofs.AnsweredLists.{none_table}
+use Rattle.shelf.specs.Shelves.{set_receipt}
+use Rattle.manifests.specs.Lists.{line, AreLines, IsTable}
+use Rattle.manifests.specs.Manifests.{manifest_head, IsReceiptLine}
+use Rattle.manifests.proofs.AnsweredLists.{none_table}
 use Rattle.publishing.specs.Published.{Adds, AddsAll, IsBegun, IsBlank, IsPublished}
 use Rattle.publishing.proofs.Added.{published_with, receipts_with}
 

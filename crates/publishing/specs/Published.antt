@@ -3,8 +3,8 @@ use Rattle.std.specs.Prelude.{◌≡◌, ℕ, List, [], ◌++◌, Option, Some, 
 use Rattle.sigtext.specs.Bytes.{IsBeginning}
 use Rattle.boxes.specs.State.{State}
 use Rattle.boxes.specs.Rows.{numbered}
-use Rattle.desk.specs.Lists.{IsTable}
-use Rattle.desk.specs.Manifests.{manifest_head, IsReceiptLine, WritesManifest}
+use Rattle.manifests.specs.Lists.{IsTable}
+use Rattle.manifests.specs.Manifests.{manifest_head, IsReceiptLine, WritesManifest}
 
 -- ---- the text of a sheet, which may be unknown
 

@@ -3,7 +3,6 @@ pub mod Encoding
 pub mod SpellingLemmas
 pub mod Cuts
 pub mod Readings
-pub mod Published
 pub mod Ascending
 pub mod Uniqueness
 pub mod PlainTexts

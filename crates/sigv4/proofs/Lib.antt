@@ -1,5 +1,4 @@
 pub mod Credentials
 pub mod Moments
-pub mod Vectors
 pub mod Days
 pub mod Digests

@@ -8,7 +8,7 @@ use Rattle.boxes.specs.State.{Key, Place, State, place_cmp, limit_cmp}
 use Rattle.boxes.specs.FirstState.{first_state}
 use Rattle.sqltables.specs.Tables.{tables_of, put, Part}
 use Rattle.sqltables.specs.Changes.{no_rows, with_key}
-use Rattle.sqlstatements.proofs.Commands.{get_put}
+use Rattle.sqlchanges.proofs.Commands.{get_put}
 
 -- at a key that a map lacks, adding an entry to the map gives the same as adding it to the empty map
 put_on_none : {V : Type 0} (f : List ℕ → Option V) (k : List ℕ) (v : V) (q : List ℕ) → f q ≡ None → put same_bytes f k v q ≡ put same_bytes (λ x. None) k v q

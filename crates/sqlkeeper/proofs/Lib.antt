@@ -9,3 +9,4 @@ pub mod Asked
 pub mod Emptied
 pub mod Reopened
 pub mod NextTexts
+pub mod FileChanges

@@ -8,13 +8,13 @@ ghost use Rattle.boxes.specs.Sound.{IsSound};
 ghost use Rattle.boxes.specs.Changes.{IsChangeOf};
 ghost use Rattle.sqltables.specs.Schema.{v2};
 ghost use Rattle.sqltables.specs.Means.{Means, LeavesOnly, AddsOnly};
-ghost use Rattle.sqlstatements.specs.Pieces.{held};
+ghost use Rattle.sqltables.specs.Staging.{held};
 ghost use Rattle.sqlkeeper.specs.Committing.{EndsOpen};
 
+use crate::changing::write_change;
 use boxes::Change;
 use sqlite::{Alter, Connection, Error, ErrorCode};
-use sqlstatements::changes::write_change;
-use sqlstatements::pieces::Pieces;
+use sqltables::staging::Pieces;
 
 /// Makes a change that the rules allow for the office, completely or not at all. It is committed when the call returns `Ok`.
 ///

@@ -10,13 +10,13 @@ ghost use Rattle.boxes.specs.Views.{AreTotals, IsReceiptAt};
 ghost use Rattle.boxes.specs.Clerks.{clerks};
 ghost use Rattle.boxes.specs.Limits.{IsLimitedTo, MayUse};
 ghost use Rattle.sqltables.specs.Tables.{placed};
-ghost use Rattle.sqlstatements.specs.Pieces.{held};
+ghost use Rattle.sqltables.specs.Staging.{held};
 ghost use Rattle.sqlkeeper.specs.Asking.{AnswersOf, LeavesOffice};
 
 use boxes::{BoxRow, FileRow, KeyRow, OfficeRow, ReceiptRow, Totals};
 use sqlite::{Alter, Connection, Error, ErrorCode};
-use sqlstatements::pieces::Pieces;
-use sqlstatements::{questions, standing};
+use sqlquestions::{questions, standing};
+use sqltables::staging::Pieces;
 use std::alloc::Global;
 
 /// The settings of the office.

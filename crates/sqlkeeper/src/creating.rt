@@ -10,8 +10,8 @@ ghost use Rattle.sqlkeeper.specs.Committing.{EndsOpen};
 ghost use Rattle.sqlkeeper.specs.Emptying.{HasNoneStaged};
 
 use sigv4::Allowance;
+use sqlchanges::making::make_office;
 use sqlite::{Alter, Connection, Error, ErrorCode};
-use sqlstatements::making::make_office;
 
 /// Makes a new office in a database without tables, completely or not at all. Nothing is staged.
 ///

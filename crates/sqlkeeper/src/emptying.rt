@@ -10,8 +10,8 @@ ghost use Rattle.sqlaudit.specs.Opened.{IsSettled, OnlyLooks, LeavesUntouched};
 ghost use Rattle.sqlkeeper.specs.Committing.{EndsOpen};
 ghost use Rattle.sqlkeeper.specs.Emptying.{EmptiesStaged, HasNoneStaged};
 
+use sqlchanges::staged::empty_staged;
 use sqlite::{Alter, Connection, Error, ErrorCode};
-use sqlstatements::staged::empty_staged;
 
 /// Deletes the staged rows, all or none. The office is unchanged. The rows are permanently gone when the call returns `Ok`.
 ///

@@ -7,7 +7,7 @@ ghost use Rattle.rolls.specs.Next.{text_in, IsNext, IsKey, IsBox, IsFileIn, IsLi
 ghost use Rattle.sqlkeeper.specs.Asking.{AnswersOf, LeavesOffice};
 
 use sqlite::{Alter, Connection, Error, ErrorCode};
-use sqlstatements::following;
+use sqlquestions::following;
 
 /// The id of the first key after this text.
 pub(crate) fn key_after<S: Alter>(

@@ -3,6 +3,7 @@
 
 mod applying;
 mod asking;
+mod changing;
 mod creating;
 mod emptying;
 mod file_keeper;

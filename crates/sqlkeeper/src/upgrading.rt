@@ -11,8 +11,8 @@ ghost use Rattle.sqlkeeper.specs.Committing.{EndsOpen};
 ghost use Rattle.sqlkeeper.specs.Emptying.{HasNoneStaged};
 
 use sigv4::Allowance;
+use sqlchanges::making::upgrade;
 use sqlite::{Alter, Connection, Error, ErrorCode};
-use sqlstatements::making::upgrade;
 
 /// Upgrades an office from version 1 to version 2, completely or not at all. The state is the same, with no allowance and no
 /// limits, and nothing is staged. It is committed when the call returns `Ok`.

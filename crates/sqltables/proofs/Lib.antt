@@ -21,3 +21,6 @@ pub mod PieceColumns
 pub mod PieceAt
 pub mod Gathering
 pub mod Shown
+pub mod Places
+pub mod Asked
+pub mod Held

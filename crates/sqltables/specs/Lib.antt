@@ -7,3 +7,4 @@ pub mod Kept
 pub mod OneState
 pub mod Inside
 pub mod Pieces
+pub mod Staging

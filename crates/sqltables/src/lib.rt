@@ -4,6 +4,7 @@
 pub mod calls;
 pub mod pieces;
 pub mod reading;
+pub mod staging;
 
 /// The maximum size of a file: 8 MiB.
 pub const MOST_BYTES: usize = 8_388_608;

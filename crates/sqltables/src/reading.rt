@@ -13,6 +13,7 @@ ghost use Rattle.sqltables.specs.Questions.{shown_key, shown_box, shown_receipt}
 use boxes::{BoxRow, KeyRow, Mode, NameRule, ReceiptRow, Role};
 use sqlite::{Error, Row};
 use std::alloc::{AllocError, Global};
+use std::str;
 
 /// Reads a role from its number: 0 is a link, 1 a clerk. Any other number is an error.
 fn read_role(row: &Row, at: usize) -> Result<Role, Error>
@@ -52,6 +53,16 @@ pub fn read_text(row: &Row, at: usize) -> Result<Vec<u8>, Error>
     ensures { IfOk result (λ text. column row.now at ≡ Text text.items) }
 {
     Ok(row.get::<String>(at)?.into_bytes())
+}
+
+/// These bytes as a text. Bytes that are not UTF-8 are refused with `Utf8Error`.
+pub fn text_of(bytes: &[u8]) -> Result<&str, Error>
+    ensures { IfOk result (λ text. text.now ≡ bytes.now) }
+{
+    match str::from_utf8(bytes) {
+        Ok(text) => Ok(text),
+        Err(error) => Err(Error::Utf8Error(error.valid_up_to())),
+    }
 }
 
 /// Reads a minute of the day. A number above 65535 is an error.

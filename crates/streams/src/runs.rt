@@ -1,4 +1,4 @@
-//! Lists of connections.
+//! A list of connections, and the moments that a clock lists for them.
 use office::{Counted, ListedClock};
 use sigv4::Moment;
 use std::test::Fail;
@@ -12,7 +12,7 @@ const NO_TRANSFER_CODING: &[u8] =
 fn runs_a_list_of_connections(rt: HostRuntime) -> Result<(), Fail> {
     let alloc = rt.alloc();
     let first = Moment::read(DATE).ok_or("no moment")?;
-    // A refusal for the stream does not ask the clock.
+    // An empty stream and a refusal for the stream do not ask the clock.
     let late = Moment::read(b"20130525T000000Z").ok_or("no moment")?;
     let others = [late, first, late];
     let mut clock = ListedClock::new(first, &others);
@@ -24,6 +24,7 @@ fn runs_a_list_of_connections(rt: HostRuntime) -> Result<(), Fail> {
     let coded = Source::whole(b"GET / HTTP/1.1\r\nTransfer-Encoding: chunked\r\n\r\n");
     let ample = || Sink::new(alloc, 4096, 4096);
     let mut connections = [
+        (Counted::new(Source::whole(b"")), Counted::new(ample())),
         (
             Counted::new(Source::whole(REQUEST)),
             Counted::new(Sink::new(alloc, 9, 4096)),
@@ -37,10 +38,11 @@ fn runs_a_list_of_connections(rt: HostRuntime) -> Result<(), Fail> {
     ];
     assert_eq!(rt; make_office(alloc)?.run(&mut connections, &mut clock), 2);
     for (connection, want, faults) in [
-        (&connections[0], NO_BOX, (0, 0)),
-        (&connections[1], NO_TRANSFER_CODING, (0, 0)),
-        (&connections[2], EXPIRED, (1, 0)),
-        (&connections[3], &NO_BOX[..8], (0, 1)),
+        (&connections[0], b"".as_slice(), (0, 0)),
+        (&connections[1], NO_BOX, (0, 0)),
+        (&connections[2], NO_TRANSFER_CODING, (0, 0)),
+        (&connections[3], EXPIRED, (1, 0)),
+        (&connections[4], &NO_BOX[..8], (0, 1)),
     ] {
         assert_eq!(rt; connection.1.inner.text.as_slice(), want);
         assert_eq!(rt; (connection.0.faults(), connection.1.faults()), faults);

@@ -1,28 +1,25 @@
-//! Uploads that are staged in pieces: over a keeper that refuses each call in turn, over readers with any number of bytes per
-//! read, and over a quota. The receipts come from Python's `hashlib`.
+//! Uploads that are staged in pieces: which calls they make of a keeper, and what they leave staged, also if it refuses each
+//! call in turn. The receipt comes from Python's `hashlib`.
 use boxes::Mode;
-use keeper::{Keeper, Shelf};
+use links::LinkKey;
 use office::{Office, SessionEnd};
+use shelf::Shelf;
 use std::alloc::Global;
 use std::test::Fail;
-use trials::boxed::{add_box, begun, settings};
+use trials::boxed::{Asked, add_box, begun, settings};
 use trials::errands::set_file;
-use trials::owed::PAST_QUOTA;
-use trials::published::TRY_AGAIN;
-use trials::rows::holds;
-use trials::staged::{SIZE, body, is_unstaged, left_by, source, upload_of};
-use trials::telling::told;
+use trials::owed::{NO_SIGNATURE, PAST_QUOTA};
+use trials::published::{DATE, ID, TRY_AGAIN};
+use trials::staged::{SIZE, body, breaks_off, is_unstaged, left_by, source, upload_of};
+use trials::telling::{holds, told};
 use trials::watched::Watched;
 
 // The receipt number 2, for 200000 bytes.
 const SECOND: &[u8] =
     b"HTTP/1.1 200 OK\r\nContent-Type: text/plain\r\nContent-Length: 82\r\n\r\nreceipt 2 200000 e24bc62381f1224fbbb74688663f8f9743b9680b193edd666835e97b06e730eb\n";
 
-/// A watched office in memory.
-pub(crate) type WatchedOffice = Office<Watched<Shelf>>;
-
-/// A watched office with a box `in` of this quota, which has an empty file `a2.txt`.
-pub(crate) fn make_watched(alloc: Global, quota: u64) -> Result<WatchedOffice, Fail> {
+// A watched office in memory with a box `in` of this quota, which has an empty file `a2.txt`.
+fn make_watched(alloc: Global, quota: u64) -> Result<Office<Watched<Shelf>>, Fail> {
     let office = begun(alloc, 0)?;
     let mut office = Office::new(alloc, Watched::new(office.keeper));
     add_box(&mut office.keeper, &settings(Mode::Replace, quota, 9))?;
@@ -98,17 +95,37 @@ fn each_call_of_a_staged_upload_is_refused_in_turn(rt: HostRuntime) -> Result<()
 }
 
 #[test]
-fn receipts_are_the_same_whatever_is_read_at_once(rt: HostRuntime) -> Result<(), Fail> {
+fn a_body_is_staged_as_it_comes(rt: HostRuntime) -> Result<(), Fail> {
+    let alloc = rt.alloc();
+    let mut stream = upload_of(alloc, &body(alloc, SIZE)?)?;
+    stream.truncate(stream.len().saturating_sub(50_000));
+    let mut office = make_watched(alloc, 1_000_000)?;
+    breaks_off(&mut office, source(&stream, 4096))?;
+    assert!(rt; office.keeper.pieces >= 3);
+    assert!(rt; is_unstaged(&mut office.keeper)?);
+    Ok(())
+}
+
+#[test]
+fn a_body_with_a_wrong_signature_is_not_staged(rt: HostRuntime) -> Result<(), Fail> {
     let alloc = rt.alloc();
     let bytes = body(alloc, SIZE)?;
-    let stream = upload_of(alloc, &bytes)?;
-    for at_once in [1, 17, 4096, 65537] {
-        let mut office = make_watched(alloc, 1_000_000)?;
-        left_by(&mut office, source(&stream, at_once))?.comes_to(SECOND, SessionEnd::Ended)?;
-        let file = office.keeper.file(b"in", b"a.txt")?.ok_or("no file")?;
-        assert!(rt; file.bytes == bytes, "{at_once} at once");
-        assert!(rt; is_unstaged(&mut office.keeper)?, "{at_once} at once");
-    }
+    let unsigned = Asked {
+        key: LinkKey {
+            id: ID,
+            secret: b"another",
+        },
+        method: b"PUT",
+        path: b"/in/a.txt",
+        body: Some(&bytes),
+        start: DATE,
+        params: &[],
+    };
+    let stream = unsigned.message(alloc)?;
+    let mut office = make_watched(alloc, 1_000_000)?;
+    office.keeper.refuse(0);
+    left_by(&mut office, source(&stream, 4096))?.comes_to(NO_SIGNATURE, SessionEnd::Ended)?;
+    assert_eq!(rt; (office.keeper.pieces, office.keeper.drops), (0, 0));
     Ok(())
 }
 
@@ -124,7 +141,5 @@ fn a_staged_upload_does_not_pass_the_quota(rt: HostRuntime) -> Result<(), Fail> 
     assert_eq!(rt; office.keeper.drops, 1);
     assert!(rt; is_unstaged(&mut office.keeper)?);
     assert!(rt; told(alloc, &mut office.keeper)? == before);
-    let mut office = make_watched(alloc, 200_000)?;
-    left_by(&mut office, source(&stream, 4096))?.comes_to(SECOND, SessionEnd::Ended)?;
     Ok(())
 }

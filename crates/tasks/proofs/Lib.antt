@@ -2,7 +2,6 @@ pub mod Defaulted
 pub mod FaultFree
 pub mod FullRows
 pub mod LineCuts
-pub mod TaskExamples
 pub mod TaskFaults
 pub mod TaskNames
 pub mod TaskValues

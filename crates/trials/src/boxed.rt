@@ -2,9 +2,10 @@
 use crate::fakes::{Sink, Source};
 use crate::published::{DATE, ID, SECRET};
 use boxes::{BoxRow, Change, Command, Mode, NameRule, OfficeRow};
-use keeper::{KeepFault, Keeper, Shelf};
+use keeper::{KeepFault, Keeper};
 use links::{LinkKey, LinkOrder, OrderParam, write_link};
 use office::{Counted, FixedClock, Office, SessionEnd};
+use shelf::Shelf;
 use sigv4::{Allowance, Moment};
 use std::alloc::Global;
 use std::test::Fail;
@@ -47,13 +48,6 @@ pub fn office_row(east: i16) -> OfficeRow {
 pub fn begun(alloc: Global, east: i16) -> Result<Office<Shelf>, Fail> {
     let keeper = Shelf::new(alloc, office_row(east), ID, SECRET)?;
     Ok(Office::new(alloc, keeper))
-}
-
-/// The same with a box `in`.
-pub fn make_office(alloc: Global, east: i16, row: &BoxRow) -> Result<Office<Shelf>, Fail> {
-    let mut office = begun(alloc, east)?;
-    add_box(&mut office.keeper, row)?;
-    Ok(office)
 }
 
 /// A request by a presigned URL that is valid for seven days. Without a body it has no `Content-Length`.
@@ -153,16 +147,4 @@ pub fn sent<K: Keeper>(
     let mut writer = Counted::new(Sink::new(office.alloc, 4096, 4096));
     let end = office.session(&mut reader, &mut writer, &mut FixedClock::new(moment));
     Ok((writer.inner.text, end))
-}
-
-/// What a session at this moment writes. The session must read the stream to its end.
-pub fn reply<K: Keeper>(
-    office: &mut Office<K>,
-    stream: &[u8],
-    at: &[u8; 16],
-) -> Result<Vec<u8>, Fail> {
-    match sent(office, stream, at)? {
-        (text, SessionEnd::Ended) => Ok(text),
-        _ => Err("another end".into()),
-    }
 }

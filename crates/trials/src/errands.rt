@@ -2,8 +2,7 @@
 use crate::boxed::{add_box, bare, order, put, sent};
 use crate::owed::{DONE, FIRST_ABC, FOUND_ABC, SECOND_ABD, SECOND_X};
 use crate::published::{DATE, ID, TRY_AGAIN};
-use crate::rows::holds;
-use crate::telling::told;
+use crate::telling::{holds, told};
 use crate::watched::Watched;
 use boxes::{BoxRow, Change, Command, Mode, NameRule, NewFile, Role};
 use keeper::{KeepFault, Keeper};

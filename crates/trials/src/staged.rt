@@ -3,8 +3,7 @@ use crate::boxed::put;
 use crate::fakes::{Sink, Source};
 use crate::owed::NO_WHOLE_BODY;
 use crate::published::DATE;
-use crate::rows::holds;
-use crate::telling::told;
+use crate::telling::{holds, told};
 use crate::watched::Watched;
 use keeper::Keeper;
 use office::{Counted, FixedClock, Office, SessionEnd};
@@ -14,9 +13,6 @@ use std::test::Fail;
 
 /// The size of an upload that is staged in several pieces.
 pub const SIZE: usize = 200_000;
-
-/// The greatest size of a body in bytes.
-pub const MOST: usize = 8_388_608;
 
 /// `size` bytes that repeat 0 to 250.
 pub fn body(alloc: Global, size: usize) -> Result<Vec<u8>, Fail> {

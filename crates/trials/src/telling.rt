@@ -5,6 +5,11 @@ use keeper::Keeper;
 use std::alloc::Global;
 use std::test::Fail;
 
+/// Fails with this name if the condition is false.
+pub fn holds(what: bool, name: &'static str) -> Result<(), Fail> {
+    if what { Ok(()) } else { Err(name.into()) }
+}
+
 // Every key, box and file that these tests name, and one of each that no test adds.
 const KEYS: [&[u8]; 4] = [ID, b"k2", b"k3", b"k4"];
 

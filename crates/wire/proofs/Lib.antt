@@ -2,10 +2,8 @@ pub mod Written
 pub mod Skipping
 pub mod Skips
 pub mod Texts
-pub mod AnswerRows
 pub mod Heads
 pub mod Fronts
-pub mod FramingEdges
 pub mod FieldLists
 pub mod Announced
 pub mod Backlogs
@@ -14,5 +12,4 @@ pub mod NextMessages
 pub mod Halves
 pub mod Beginnings
 pub mod BrokenOff
-pub mod Awaiting
 pub mod GivenFirst

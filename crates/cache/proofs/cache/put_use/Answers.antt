@@ -3,8 +3,8 @@ use Rattle.std.specs.Prelude.{is_some}
 use Rattle.sigtext.specs.Bytes.{bytes_cmp}
 use Rattle.boxes.specs.Limits.{MayUse}
 use Rattle.boxes.proofs.Lookups.{bytes_total}
-use Rattle.keeper.specs.Shelves.{bytes_of}
-use Rattle.keeper.proofs.MapLemmas.{sets_of}
+use Rattle.shelf.specs.Shelves.{bytes_of}
+use Rattle.shelf.proofs.MapLemmas.{sets_of}
 use Rattle.cache.specs.declared.cache.CachedKey.{CachedKey}
 use Rattle.cache.specs.Recalled.{IsKeyIn, RecallsKeys}
 use Rattle.cache.proofs.Entries.{each_set}

@@ -2,8 +2,8 @@ use Rattle.std.proofs.Common.{Some, ap, sym, subst}
 use Rattle.std.specs.Prelude.{is_some}
 use Rattle.sigtext.specs.Bytes.{bytes_cmp}
 use Rattle.boxes.proofs.Lookups.{bytes_total}
-use Rattle.keeper.specs.Shelves.{bytes_of}
-use Rattle.keeper.proofs.MapLemmas.{sets_of}
+use Rattle.shelf.specs.Shelves.{bytes_of}
+use Rattle.shelf.proofs.MapLemmas.{sets_of}
 use Rattle.cache.specs.declared.cache.CachedBox.{CachedBox}
 use Rattle.cache.specs.Recalled.{HasTotals}
 use Rattle.cache.proofs.Entries.{has_totals, no_totals}

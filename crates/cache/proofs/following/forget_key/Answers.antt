@@ -1,8 +1,8 @@
 use Rattle.std.proofs.Common.{None}
 use Rattle.sigtext.specs.Bytes.{bytes_cmp}
 use Rattle.boxes.proofs.Lookups.{bytes_total}
-use Rattle.keeper.specs.Shelves.{bytes_of}
-use Rattle.keeper.proofs.MapLemmas.{sets_of}
+use Rattle.shelf.specs.Shelves.{bytes_of}
+use Rattle.shelf.proofs.MapLemmas.{sets_of}
 use Rattle.cache.proofs.Entries.{lacks_gone}
 use Rattle.cache.proofs.following.forget_key.Goals as goal
 

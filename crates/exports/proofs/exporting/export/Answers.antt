@@ -2,8 +2,8 @@ use Rattle.std.proofs.Common.{[], ◌++◌, refl}
 use Rattle.std.proofs.lemmas.Result.{err_from_is_err_and}
 use Rattle.std.specs.FinMap.{entries}
 use Rattle.wire.proofs.Written.{sends_both}
-use Rattle.desk.specs.Lists.{line}
-use Rattle.desk.proofs.AnsweredLists.{lines_none, none_table, sends_err, sends_nothing}
+use Rattle.manifests.specs.Lists.{line}
+use Rattle.manifests.proofs.AnsweredLists.{lines_none, none_table, sends_err, sends_nothing}
 use Rattle.exports.specs.Exports.{export_head, files_in, IsSum, named_box}
 use Rattle.exports.proofs.SentFiles.{adds_nothing}
 use Rattle.exports.proofs.exporting.export.Goals as goal

@@ -2,7 +2,7 @@ use Rattle.std.proofs.Common.{◌≡◌, ◌∙◌, Err, refl, sym, subst}
 use Rattle.std.proofs.lemmas.Result.{err_from_is_err_and}
 use Rattle.std.specs.declared.cmp.Ordering.TheVariants.{Less}
 use Rattle.boxes.specs.State.{Place, place_cmp}
-use Rattle.desk.specs.Asking.{stays_joined, stays_unasked}
+use Rattle.manifests.specs.Asking.{stays_joined, stays_unasked}
 use Rattle.lists.specs.Places.{place_in}
 use Rattle.exports.specs.Exports.{files_in, named_box}
 use Rattle.exports.specs.Faults.{was_put}

@@ -1,5 +1,5 @@
 use Rattle.std.proofs.Common.{Ok}
-use Rattle.desk.proofs.AnsweredLists.{sends_whole}
+use Rattle.manifests.proofs.AnsweredLists.{sends_whole}
 use Rattle.exports.proofs.exporting.send_head.Goals as goal
 
 pub returns-in-Ok-clause-sent : goal.returns-in-Ok-clause-sent

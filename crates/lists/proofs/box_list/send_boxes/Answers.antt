@@ -4,7 +4,7 @@ use Rattle.sigtext.specs.Bytes.{bytes_cmp}
 use Rattle.boxes.proofs.Lookups.{bytes_same, bytes_total}
 use Rattle.lists.proofs.ToldLines.{box_line_told, box_moments}
 use Rattle.wire.proofs.Written.{sends_same}
-use Rattle.desk.specs.Asking.{stays_joined, stays_unasked}
+use Rattle.manifests.specs.Asking.{stays_joined, stays_unasked}
 use Rattle.rolls.specs.Next.{IsBox, IsNext}
 use Rattle.lists.specs.Boxes.{IsBoxLine}
 use Rattle.lists.proofs.NextFiles.{box_behind}

@@ -6,7 +6,7 @@ use Rattle.boxes.proofs.Lookups.{place_total}
 use Rattle.lists.specs.Places.{place_in}
 use Rattle.lists.proofs.ToldLines.{file_line_told, file_moment}
 use Rattle.wire.proofs.Written.{sends_same}
-use Rattle.desk.specs.Asking.{stays_joined, stays_unasked}
+use Rattle.manifests.specs.Asking.{stays_joined, stays_unasked}
 use Rattle.lists.specs.Files.{IsFileLine}
 use Rattle.lists.proofs.NextFiles.{place_behind}
 use Rattle.lists.proofs.Walked.{walk_begins, walk_breaks, walk_ends, walk_moves, walk_stops, Walked}

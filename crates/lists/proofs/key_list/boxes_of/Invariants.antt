@@ -3,7 +3,7 @@ use Rattle.sigtext.specs.Bytes.{bytes_cmp}
 use Rattle.boxes.specs.State.{State}
 use Rattle.keeper.specs.Bound.{StaysBy}
 use Rattle.rolls.specs.Next.{IsLimit}
-use Rattle.desk.specs.Asking.{Meant}
+use Rattle.manifests.specs.Asking.{Meant}
 use Rattle.lists.specs.Keys.{IsLast}
 use Rattle.lists.proofs.LimitedBoxes.{Told}
 use Rattle.lists.proofs.key_list.boxes_of.Given as goal

@@ -1,5 +1,5 @@
 use Rattle.std.proofs.Common.{◌∙◌, map, inr, ap, ◌++◌, ◌∷◌, [], sym}
-use Rattle.desk.proofs.ReceiptLines.{map_push}
+use Rattle.manifests.proofs.ReceiptLines.{map_push}
 use Rattle.lists.proofs.Texts.{last_cut}
 use Rattle.lists.proofs.key_list.last_of.Goals as goal
 

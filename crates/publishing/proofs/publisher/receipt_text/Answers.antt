@@ -1,8 +1,8 @@
 use Rattle.std.proofs.Common.{◌≡◌, ℕ, [], ◌∷◌, IfOk, ap, subst, sym}
 use Rattle.boxes.specs.State.{Receipt}
 use Rattle.boxes.specs.Sound.{IsMoment}
-use Rattle.desk.specs.Lists.{AreLines}
-use Rattle.desk.specs.Manifests.{IsReceiptLine}
+use Rattle.manifests.specs.Lists.{AreLines}
+use Rattle.manifests.specs.Manifests.{IsReceiptLine}
 use Rattle.publishing.proofs.publisher.receipt_text.Goals as goal
 
 pub returns-in-Ok : goal.returns-in-Ok

@@ -8,7 +8,7 @@ use Rattle.boxes.specs.Changes.{IsChangeOf}
 use Rattle.sqltables.specs.Schema.{v2}
 use Rattle.sqltables.specs.Tables.{tables_of}
 use Rattle.sqltables.specs.Means.{Pends, Holds, Means, LeavesOnly, AddsOnly, LeavesLast}
-use Rattle.sqlstatements.specs.Pieces.{held}
+use Rattle.sqltables.specs.Staging.{held}
 use Rattle.sqlkeeper.proofs.Taken.{made, durable, crash, open_still}
 use Rattle.sqlkeeper.proofs.applying.apply_change.Given as given
 use Rattle.sqlkeeper.proofs.applying.apply_change.Goals as goal

@@ -3,7 +3,7 @@ use Rattle.std.specs.Prelude.{◌↔◌, IsTrue, IfOk}
 use Rattle.sqlite.specs.Held.{state}
 use Rattle.boxes.specs.State.{Place}
 use Rattle.boxes.specs.Rules.{HasBytes}
-use Rattle.sqlstatements.specs.Pieces.{held}
+use Rattle.sqltables.specs.Staging.{held}
 use Rattle.sqlkeeper.proofs.Stays.{stays, carried}
 use Rattle.sqlkeeper.proofs.NotText.{no_file_in, no_file_named, no_bytes_at}
 use Rattle.sqlkeeper.proofs.file_keeper.SqlKeeperKeeper.staged_equals.Goals as goal

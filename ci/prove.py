@@ -1,0 +1,234 @@
+"""Proves crates with `rt ci`: each as soon as those that it stands on are proved, and as many in parallel as processors and
+memory allow. `rt ci` keeps what it proves on this machine, and a later run takes it over, also in another checkout.
+
+The code of `rt` does the work. Three things are different here:
+
+- `rt` allows each check more memory than it was ever seen to take, so few run in parallel. Here it is half as much.
+- The crates with the most work behind them come first, by the seconds in ci/seconds.txt. `rt` counts lines.
+- With `--program`, one compiler builds the program, which stays in `crates/NAME/out`. `rt ci` uses two, and compares what both
+  programs write.
+
+Before it begins, it says how long it will take. Then it shows a line that moves: how many crates are proved, which are at work,
+and for how long. The output of `rt` goes to a file, which that line names.
+"""
+
+import argparse
+import concurrent.futures
+import contextlib
+import os
+import pathlib
+import shutil
+import sys
+import tempfile
+import threading
+import time
+
+import kit
+
+RT = kit.rt()
+# A check takes less than this share of the memory that `rt` estimates for it: up to 3 GB were seen.
+SHARE = 0.5
+# The processor seconds of each crate: of its proof, and of the proof of its tests.
+SECONDS = pathlib.Path(__file__).with_name("seconds.txt")
+# The seconds for each line of a crate that is not listed there.
+PER_LINE = 0.05
+# The share of the processors that are busy.
+BUSY = 0.8
+# The share of the free memory that checks may take.
+MOST_MEMORY = 0.85
+# How often the line is written anew, in seconds, and the lines that are shown of a log that ends in a failure.
+EVERY, TAIL = 1, 40
+
+
+def known_seconds():
+    """The processor seconds by crate and kind of proof: `proof` or `tests`."""
+    found = {}
+    for line in SECONDS.read_text(encoding="utf-8").splitlines():
+        if line and not line.startswith("#"):
+            crate, proof, tests = line.split()
+            found |= {(crate, "proof"): float(proof), (crate, "tests"): float(tests)}
+    return found
+
+
+def minutes(seconds):
+    return f"{int(seconds) // 60} min {int(seconds) % 60:02} s"
+
+
+class Progress:
+    """The line that says how far the proofs are. Where nobody looks, each crate that ends has a line."""
+
+    def __init__(self, log, out=sys.stderr):
+        self.log, self.out, self.begin = log, out, time.monotonic()
+        self.crates, self.left, self.at_work, self.took = 0, {}, {}, {}
+        self.turn, self.has_ended = threading.Lock(), threading.Event()
+
+    def expect(self, tasks):
+        """Says how long these tasks will take from nothing."""
+        self.left = {it: tasks[it][1] for it in tasks if tasks[it][1]}
+        self.crates = len({crate for crate, *_ in self.left})
+        lanes = RT.processors()
+        about = sum(self.left.values()) / BUSY / lanes / 60
+        self.say(f"proving {self.crates} crates on {lanes} processors: about {about:.0f} min from nothing")
+
+    def watched(self, key, call):
+        """The call of a task, during which the line names it."""
+
+        def watching(given, jobs):
+            begin = time.monotonic()
+            with self.turn:
+                self.at_work[key] = begin
+            is_well = call(given, jobs)
+            with self.turn:
+                del self.at_work[key]
+                if is_well and self.left.pop(key, None):
+                    self.took[key] = time.monotonic() - begin
+            self.show(key)
+            return is_well
+
+        return watching
+
+    def line(self):
+        with self.turn:
+            done = self.crates - len({crate for crate, *_ in self.left})
+            names = ", ".join(dict.fromkeys(crate for crate, *_ in self.at_work))
+        took = minutes(time.monotonic() - self.begin)
+        return f"{done} of {self.crates} crates proved; at work: {names or 'none'}; {took}; log: {self.log}"
+
+    def show(self, key=None):
+        """Writes the line over the last one, or, where nobody looks, below it once a task has ended."""
+        if self.out.isatty():
+            width = shutil.get_terminal_size().columns - 1
+            print(f"\r{self.line()[:width]:{width}}", end="", file=self.out, flush=True)
+        elif key in self.took:
+            self.say(self.line())
+
+    def say(self, text):
+        print(text, file=self.out, flush=True)
+
+    @contextlib.contextmanager
+    def shown(self):
+        """Keeps the line moving."""
+
+        def move():
+            while not self.has_ended.wait(EVERY):
+                self.show()
+
+        mover = threading.Thread(target=move, daemon=True)
+        mover.start()
+        try:
+            yield
+        finally:
+            self.has_ended.set()
+            mover.join()
+            if self.out.isatty():
+                self.say("")
+
+
+class Lanes:
+    """Runs the tasks of `rt`: each once those that it waits for have ended, first those with the longest chain behind them, and as
+    many as processors and memory allow."""
+
+    def __init__(self, tasks, pool):
+        self.tasks, self.pool = tasks, pool
+        self.free, self.memory = RT.processors(), MOST_MEMORY * RT.free()
+        self.left, self.running = [it for it in in_order(tasks) if tasks[it][1]], {}
+        # a crate without tests has a task for them all the same, with no seconds
+        self.given = {it: True for it in tasks if not tasks[it][1]}
+
+    def begin(self):
+        """Begins the tasks for which there is room."""
+        ready = [it for it in self.left if all(below in self.given for below in self.tasks[it][0])]
+        for key in ready:
+            _, _, needs, call = self.tasks[key]
+            if not self.free or self.running and needs > self.memory:
+                return
+            self.left.remove(key)
+            self.free, self.memory = self.free - 1, self.memory - needs
+            self.running[self.pool.submit(call, self.given, 1)] = key, needs
+
+    def run(self):
+        """Runs them all, and returns what each gave."""
+        while self.left or self.running:
+            self.begin()
+            for it in concurrent.futures.wait(self.running, return_when=concurrent.futures.FIRST_COMPLETED).done:
+                key, needs = self.running.pop(it)
+                self.free, self.memory = self.free + 1, self.memory + needs
+                self.given[key] = it.result()
+        return self.given
+
+
+def in_order(tasks):
+    """The tasks, those with the longest chain behind them first."""
+    behind = {it: tasks[it][1] for it in tasks}
+    for key in reversed(tasks):
+        for it in tasks[key][0]:
+            behind[it] = max(behind[it], tasks[it][1] + behind[key])
+    return sorted(tasks, key=lambda it: -behind[it])
+
+
+def arrange(progress, wants_program):
+    """Has the code of `rt` run its tasks in our lanes, and tell how far they are."""
+    compile_by, known = RT.Crate.compile_by, known_seconds()
+
+    def in_our_lanes(tasks):
+        ours = {}
+        for key, (waits, lines, needs, call) in tasks.items():
+            seconds = known.get(key, PER_LINE * lines) if lines else 0
+            ours[key] = waits, seconds, SHARE * needs, keeping(key, progress.watched(key, call))
+        progress.expect(ours)
+        with RT.ending(), concurrent.futures.ThreadPoolExecutor(len(ours)) as pool:
+            return Lanes(ours, pool).run()
+
+    def keeping(key, call):
+        """The call; the program that it makes is copied here, before `rt` removes the copy of the crates that it works on."""
+
+        def kept(given, jobs):
+            is_well = call(given, jobs)
+            made = pathlib.Path("crates", key[0], "out", key[0])
+            if wants_program and is_well and key[1] == "proof" and made.is_file():
+                (kit.ROOT / made).parent.mkdir(parents=True, exist_ok=True)
+                shutil.copy2(made, kit.ROOT / made)
+            return is_well
+
+        return kept
+
+    def compile_once(crate, backend, words, to):
+        return compile_by(crate, backend, words, to) if backend == "llvm" else 0
+
+    RT.in_lanes = in_our_lanes
+    if wants_program:
+        RT.Crate.compile_by = compile_once
+
+
+def proved(names):
+    """Proves the crates of these names, and those below them. Returns the status of `rt ci`."""
+    try:
+        return RT.where_disk_lasts(RT.ci, False, names)
+    except SystemExit as stopped:
+        return stopped.code or 2
+
+
+def main():
+    parser = argparse.ArgumentParser(description="Proves crates, and those that they stand on, in parallel.")
+    parser.add_argument("--program", action="store_true", help="build the program with one compiler, and keep it in crates/NAME/out")
+    parser.add_argument("crates", nargs="*", metavar="CRATE", help="these crates; all if none is given")
+    given = parser.parse_args()
+    os.chdir(kit.ROOT)
+    os.environ.pop("CI", None)
+    handle, log = tempfile.mkstemp(prefix="drop-prove-", suffix=".log")
+    progress = Progress(log)
+    arrange(progress, given.program)
+    names = given.crates or [it.name for it in RT.rtlib.crates_below(str(kit.ROOT))]
+    with open(handle, "w", encoding="utf-8") as out, progress.shown():
+        with contextlib.redirect_stdout(out), contextlib.redirect_stderr(out):
+            status = proved(names)
+        for key, seconds in sorted(progress.took.items(), key=lambda it: -it[1]):
+            print(f"{' '.join(key)}: {seconds:.0f} s", file=out)
+    if status:
+        print(*pathlib.Path(log).read_text(encoding="utf-8").splitlines()[-TAIL:], sep="\n", file=sys.stderr)
+    progress.say(f"{'not proved' if status else 'proved'} in {minutes(time.monotonic() - progress.begin)}; log: {log}")
+    sys.exit(status)
+
+
+if __name__ == "__main__":
+    main()

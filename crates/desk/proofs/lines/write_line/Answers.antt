@@ -1,9 +1,0 @@
-use Rattle.desk.proofs.CsvLines.{line_written}
-use Rattle.desk.proofs.lines.write_line.Goals as goal
-use Rattle.desk.proofs.lines.write_line.Goals.{in-Ok, in-Err}
-
-pub returns-clause-written : goal.returns-clause-written
-returns-clause-written c = elim c.match-write_fields.branch [
-  | in-Ok w ↦ rw w.result-is (line_written c.args.writer.now _ _ _ c.requires (rw w.in-Ok.is at c.write_fields.ensures.bytes))
-  | in-Err w ↦ rw w.result-is tt
-]

@@ -1,5 +1,0 @@
-use Rattle.keeper.proofs.StayLemmas.{stays}
-use Rattle.keeper.proofs.shelf_keeps.ShelfKeeper.file.Goals as goal
-
-pub returns-clause-rest : goal.returns-clause-rest
-returns-clause-rest c = stays c.args.self.now c.find_file.new.self c.find_file.result c.find_file.ensures.rest.same c.find_file.ensures.rest.count c.find_file.ensures.rest.fault

@@ -1,0 +1,16 @@
+use Rattle.manifests.specs.Manifests.{entry_of, word_of}
+use Rattle.manifests.proofs.Entries.{told_line}
+use Rattle.manifests.proofs.comparing.ComparerAnswerer.answer.Goals as goal
+
+pub returns-clause-line : goal.returns-clause-line
+returns-clause-line g c w known honest =
+    let entry = c.in-Some.entry in
+    let found = c.find-found.result in
+    let standing = c.in-Ok.ensures.value w known.0 known.1 honest in (
+      entry_of entry,
+      c.in-Some.ensures.some.0,
+      found,
+      c.find-found.ensures w standing,
+      told_line c.in_ok-entry_line.field-0.items entry.number_text.now c.in-Some.ensures.some.0.number entry.in_box.now entry.name.now c.word.result.now (word_of found)
+          c.in_ok-entry_line.ensures.line c.in-Some.ensures.some.1 c.word.ensures,
+    )

@@ -1,0 +1,12 @@
+use Rattle.std.proofs.Common.{refl}
+use Rattle.manifests.proofs.AnsweredLists.{unanswered}
+use Rattle.manifests.specs.LinkLists.{links_head, written_links_head, IsLinkRow}
+use Rattle.manifests.proofs.link_lists.links_from.Goals as goal
+
+pub returns-then-not-can_sign-clause-answers : goal.returns-then-not-can_sign-clause-answers
+returns-then-not-can_sign-clause-answers g c = unanswered links_head written_links_head IsLinkRow _ _ _ _ _ refl (λ text known. refl)
+
+pub returns-clause-answers : goal.returns-clause-answers
+returns-clause-answers g c =
+    let told = c.answer_list.ensures.answers in
+    record { rows = told.rows; formed = told.formed; tells = told.tells; written = λ w known. told.written w (tt, tt); unwritten = told.unwritten }

@@ -1,0 +1,5 @@
+pub mod Lists
+pub mod Manifests
+pub mod LinkLists
+pub mod Answering
+pub mod Asking

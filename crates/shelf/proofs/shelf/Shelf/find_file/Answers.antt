@@ -1,0 +1,16 @@
+use Rattle.std.proofs.Common.{◌∙◌, sym, ap}
+use Rattle.std.specs.Prelude.{slice_get}
+use Rattle.boxes.specs.State.{place_cmp}
+use Rattle.shelf.specs.Maps.{found}
+use Rattle.shelf.specs.Shelves.{place_of}
+use Rattle.shelf.proofs.FoundLemmas.{file_at}
+use Rattle.shelf.proofs.shelf.Shelf.find_file.Goals as goal
+
+pub returns-in-Ok-copy_file-clause-value : goal.returns-in-Ok-copy_file-clause-value
+returns-in-Ok-copy_file-clause-value c s h sound =
+    let k = c.args.self.now in
+    let at = c.in-Some-numbered_of.ensures.there in
+    let there = ap (found place_cmp place_of k.files.entries) (sym c.in-Ok.ensures) ∙ sym c.in-Some.ensures.value in
+    let copied = c.in-Ok-copy_file.ensures in
+    file_at k s (record { box = c.args.in_box.now; name = c.args.name.now }) c.in-Some.stored.now c.in-Some-numbered_of.receipt.now at.0 c.in-Ok-copy_file.copy h there at.1
+    (ap (λ l. slice_get l at.0) (sym c.deref.ensures.value) ∙ at.2) copied.0 copied.1

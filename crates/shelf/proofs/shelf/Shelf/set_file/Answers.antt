@@ -1,0 +1,67 @@
+use Rattle.std.proofs.Common.{rules, ◌≡◌, ◌∙◌, ◌+◌, ◌≤◌, ◌<◌, ◌^◌, ◌++◌, ◌∷◌, [], ℕ, List, Some, length, option_map, refl, sym, ap, subst, arith}
+use Rattle.std.specs.FinMap.{get, insert}
+use Rattle.std.specs.Vec.{vec_len, vec_capacity}
+use Rattle.sigtext.specs.declared.refusal.Refusal.TheVariants as rule
+use Rattle.boxes.specs.declared.rows.ReceiptRow.{ReceiptRow}
+use Rattle.boxes.specs.State.{Place, place_cmp, File}
+use Rattle.boxes.specs.Rows.{numbered_receipt}
+use Rattle.boxes.specs.Steps.{receipt_of}
+use Rattle.boxes.specs.Changes.{upload_in}
+use Rattle.boxes.specs.Totals.{used, count}
+use Rattle.boxes.proofs.Lookups.{place_total}
+use Rattle.boxes.proofs.FileTotals.{used_there, count_there}
+use Rattle.shelf.specs.declared.shelf.Shelf.{Shelf}
+use Rattle.shelf.specs.declared.shelf.StoredFile.{StoredFile}
+use Rattle.shelf.specs.Maps.{found, MapMeans}
+use Rattle.shelf.specs.Shelves.{Holds, place_of, shelved_settings, stored_file}
+use Rattle.shelf.proofs.MapLemmas.{means-set, sets_of}
+use Rattle.shelf.proofs.ShelfLemmas.{holds_files, box_there, long_of, push_listed}
+use Rattle.shelf.proofs.shelf.Shelf.set_file.Goals as goal
+
+pub returns-in-Ok-insert-clause-made : goal.returns-in-Ok-insert-clause-made
+returns-in-Ok-insert-clause-made c s after h sound set =
+    let k : Shelf = c.args.self.now in
+    let file = c.args.file.now in
+    let bytes = c.args.bytes.items in
+    let u = upload_in file bytes in
+    let place : Place = u.place in
+    let b = box_there k s place.box h (set.taken.rules rule.NoSuchBox).0 in
+    let made = c.in-Ok.ensures in
+    let number = set.file.number in
+    let f : File = record { bytes = bytes; receipt = length s.receipts + 1 } in
+    let was_is = c.in-Ok-insert.ensures.old ∙ ap (found place_cmp place_of k.files.entries) made.0 in
+    let stood : c.length_of.result ≡ option_map (λ (g : File). length g.bytes) (get s.files place)
+    = c.length_of.ensures ∙ ap (option_map (λ (x : StoredFile). length x.bytes.items)) was_is ∙ long_of (found place_cmp place_of k.files.entries place)
+    ∙ ap (option_map (λ (g : File). length g.bytes)) (sym (h.files.each place)) in
+    let quota = sound.quotas place.box (shelved_settings b.0) b.2 in
+    let settings = (sound.boxes place.box (shelved_settings b.0) b.2).1 in
+    let held_bytes : used s place.box ≤ b.0.row.quota = quota.0 in
+    let held_files : count s place.box ≤ b.0.row.max_files = quota.1 in
+    let most_bytes : b.0.row.quota ≤ 1000000000000 = settings.quota in
+    let most_files : b.0.row.max_files ≤ 1000000 = settings.max_files in
+    let short : length bytes ≤ 8388608 = set.taken.brought.short in
+    let counted : vec_len c.args.bytes ≡ length bytes = search rules in
+    let size : length bytes ≡ c.len-size.result = sym counted ∙ sym c.len-size.ensures in
+    let low : used s place.box + c.len-size.result < 2 ^ 64 = omega (arith, held_bytes, most_bytes, short, size) in
+    let few : count s place.box + 1 < 2 ^ 64 = omega (arith, held_files, most_files) in
+    let are = c.set-totals.ensures s place f (c.totals_of-totals.ensures s h sound) size stood low few in
+    let key = c.in-Ok.place in
+    let stored = c.in-Ok.stored in
+    let inserted : insert s.files (place_of key) (stored_file stored) ≡ insert s.files place f
+    = ap (λ (p : Place). insert s.files p (stored_file stored)) made.0 ∙ ap (insert s.files place) (made.1 ∙ ap (λ (n : ℕ). record { bytes = bytes; receipt = n }) number) in
+    let sets = sets_of place_cmp place_of place_total k.files c.insert.new.self (place_of key) (Some stored) c.in-Ok-insert.ensures.updates in
+    let means = subst (MapMeans place_cmp place_of stored_file c.insert.new.self.entries) inserted
+    (means-set place_cmp place_of place_total stored_file k.files.entries c.insert.new.self.entries s.files (place_of key) stored h.files sets) in
+    let room : vec_len c.reserve.new.self < vec_capacity c.reserve.new.self = (let e = c.in-Ok-reserve.ensures.ok in omega arith) in
+    let pushes = c.push.ensures.succeeds room in
+    let items : c.push.new.self.items ≡ k.receipts.items ++ c.in-Ok.receipt ∷ [] = rw pushes at c.push.ensures.items ∙ ap (λ (l : List ReceiptRow). l ++ c.in-Ok.receipt ∷ []) c.reserve.ensures.items in
+    let next : file.number ≡ 1 + length s.receipts = omega (arith, number) in
+    let given : numbered_receipt c.in-Ok.receipt ≡ (1 + length s.receipts, receipt_of u)
+    = made.2
+    ∙ ap (λ (n : ℕ). (file.number, record { box = file.in_box.now; name = file.name.now; size = n; digest = file.digest; moment = file.moment; key = file.key.now })) set.file.size
+    ∙ ap (λ (d : List ℕ). (file.number, record { box = file.in_box.now; name = file.name.now; size = length bytes; digest = d; moment = file.moment; key = file.key.now })) set.file.digest
+    ∙ ap (λ (n : ℕ). (n, receipt_of u)) next in
+    let listed = push_listed k.receipts.items c.push.new.self.items c.in-Ok.receipt s.receipts (receipt_of u) items h.receipts given in
+    let held = holds_files k s c.insert.new.self c.set_totals.new.boxes c.push.new.self (insert s.files place f) (s.receipts ++ receipt_of u ∷ []) place.box b.0 c.set-totals.result
+    h means listed b.1 (c.set_totals.ensures b.0 b.1) are (λ q far. (used_there s place f s.receipts q far, count_there s place f s.receipts q far)) in
+    subst (Holds (record k { files = c.insert.new.self; boxes = c.set_totals.new.boxes; receipts = c.push.new.self })) (sym set.sets) held

@@ -1,0 +1,3 @@
+pub mod Maps
+pub mod Shelves
+pub mod OneState

@@ -1,0 +1,17 @@
+pub mod Creates
+pub mod Steps
+pub mod ReceiptRows
+pub mod PieceRows
+pub mod TotalRows
+pub mod FileRows
+pub mod KeyRows
+pub mod ClosingRows
+pub mod BoxRows
+pub mod Uploads
+pub mod Commands
+pub mod FirstRows
+pub mod Numbers
+pub mod Chained
+pub mod Upgrades
+pub mod LimitRows
+pub mod StagedRows

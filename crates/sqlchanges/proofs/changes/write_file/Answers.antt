@@ -1,0 +1,18 @@
+use Rattle.std.proofs.Common.{◌+◌}
+use Rattle.boxes.specs.State.{Place}
+use Rattle.sqltables.specs.Tables.{Tables}
+use Rattle.sqltables.specs.Changes.{with_file, with_receipt, without_pieces, with_bytes, NoPieces}
+use Rattle.sqltables.proofs.Keys.{tells_places}
+use Rattle.sqltables.specs.Staging.{held}
+use Rattle.sqlchanges.proofs.changes.write_file.Goals as goal
+
+none_left : (tables : Tables) (place : Place) → NoPieces (without_pieces tables place) place
+none_left tables place at = rw (tells_places.itself place)
+
+pub returns-clause-done : goal.returns-clause-done
+returns-clause-done g c v tables b at r ours pends free stands there number box_is name_is size digest moment key =
+    let place : Place = record { box = c.args.in_box.now; name = c.args.name.now } in
+    let row = with_file (with_receipt (without_pieces tables place) at r) place (at + 1) in
+    let set = c.in_ok-write_rows.ensures.done v tables at r ours pends free stands number box_is name_is size digest moment key in
+    let filled = c.in_ok-insert_pieces.ensures.done v row ours set (none_left tables place) in
+    c.set_totals.ensures.done v (with_bytes row place (held c.args.bytes.now)) b ours filled there

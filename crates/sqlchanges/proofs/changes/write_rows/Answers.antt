@@ -1,0 +1,16 @@
+use Rattle.std.proofs.Common.{◌≡◌, ◌+◌, subst, OnOk, ◌∙◌}
+use Rattle.sqlite.specs.Held.{state}
+use Rattle.boxes.specs.State.{Place}
+use Rattle.sqltables.specs.Changes.{with_file, with_receipt, without_pieces}
+use Rattle.sqltables.specs.Means.{Pends}
+use Rattle.sqlchanges.proofs.changes.write_rows.Goals as goal
+
+pub returns-clause-done : goal.returns-clause-done
+returns-clause-done g c v tables at r ours pends free stands number box_is name_is size digest moment key =
+    let place : Place = record { box = c.args.in_box.now; name = c.args.name.now } in
+    let gone = without_pieces tables place in
+    let listed = with_receipt gone at r in
+    let number_is : c.in-Ok.number ≡ at + 1 = c.in-Ok.ensures.1 ∙ number in
+    let cleared = c.in_ok-delete_pieces.ensures.done v tables ours pends in
+    let noted = c.in_ok-add_receipt.ensures.done v gone at r ours cleared free number_is box_is name_is size digest moment key in
+    subst (λ n. OnOk c.set_row.result (Pends v (state g.S.Store c.set_row.new.tx.conn.now) (with_file listed place n))) number_is (c.set_row.ensures.done v listed ours noted stands)

@@ -1,0 +1,18 @@
+use Rattle.std.proofs.Common.{[], ◌∷◌}
+use Rattle.sqlite.specs.Held.{state}
+use Rattle.sqltables.specs.Schema.{s6, s7, s8, s9}
+use Rattle.sqlchanges.proofs.Chained.{goes_on_then}
+use Rattle.sqlchanges.proofs.Upgrades.{adds_rules, adds_limits, adds_staged, begins_more}
+use Rattle.sqlchanges.proofs.making.add_tables.Goals as goal
+
+pub returns-clause-done : goal.returns-clause-done
+returns-clause-done g c tables pends =
+    let begun = state g.S.Store c.args.tx.now.conn.now in
+    let rules = c.in_ok-create_table.ensures.added s6 s7 [] (11 ∷ []) tables (adds_rules tables _ _) (λ clean inside is_open. begins_more tables begun.now (pends clean inside is_open)) in
+    let limits = c.in_ok-create_table-2.ensures.added s7 s8 (11 ∷ []) (12 ∷ 11 ∷ []) tables (adds_limits tables _ _) rules in
+    c.create_table-3.ensures.added s8 s9 (12 ∷ 11 ∷ []) (14 ∷ 12 ∷ 11 ∷ []) tables (adds_staged tables _ _) limits
+
+pub returns-clause-rest : goal.returns-clause-rest
+returns-clause-rest g c =
+    let two = goes_on_then g.S.Store _ _ _ _ _ c.create_table.ensures.rest c.create_table-2.ensures.rest in
+    goes_on_then g.S.Store _ _ _ _ _ two c.create_table-3.ensures.rest

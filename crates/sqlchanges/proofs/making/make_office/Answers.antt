@@ -1,0 +1,22 @@
+use Rattle.std.proofs.Common.{false, refl, subst, w16}
+use Rattle.std.proofs.lemmas.Int.{to_z-of_z}
+use Rattle.sqlite.specs.Held.{state}
+use Rattle.boxes.specs.declared.rows.Role.TheVariants.{Clerk}
+use Rattle.sqltables.specs.Schema.{v1, first_version}
+use Rattle.sqltables.specs.Changes.{no_rows, with_key}
+use Rattle.sqltables.specs.Means.{Pends}
+use Rattle.sqlchanges.proofs.making.make_office.Goals as goal
+
+pub returns-clause-done : goal.returns-clause-done
+returns-clause-done g c sees =
+    let new = state g.S.Store c.insert_office.new.tx.conn.now in
+    let made = c.in_ok-insert_office.ensures.done (c.in_ok-create_tables.ensures.done sees) in
+    c.upgrade.ensures.done (with_key (no_rows c.args.east 0) c.args.id.now (record { role = Clerk; secret = c.args.secret.now; revoked = false }))
+    (c.in_ok-insert_key.ensures.done v1 (no_rows c.args.east 0) first_version (subst (λ east. Pends v1 new (no_rows east 0)) (to_z-of_z w16 c.args.east c.ranges.east) made) refl)
+
+pub returns-clause-unstaged : goal.returns-clause-unstaged
+returns-clause-unstaged g c sees =
+    let new = state g.S.Store c.insert_office.new.tx.conn.now in
+    let made = c.in_ok-insert_office.ensures.done (c.in_ok-create_tables.ensures.done sees) in
+    c.upgrade.ensures.unstaged (with_key (no_rows c.args.east 0) c.args.id.now (record { role = Clerk; secret = c.args.secret.now; revoked = false }))
+    (c.in_ok-insert_key.ensures.done v1 (no_rows c.args.east 0) first_version (subst (λ east. Pends v1 new (no_rows east 0)) (to_z-of_z w16 c.args.east c.ranges.east) made) refl)

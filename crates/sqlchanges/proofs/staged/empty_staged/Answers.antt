@@ -1,0 +1,44 @@
+use Rattle.std.proofs.Common.{◌≡◌, arith, sym, ap, subst, ◌∙◌}
+use Rattle.sqlite.specs.Effect.{Database}
+use Rattle.sqlite.specs.State.{HasCleanDisk}
+use Rattle.sqlite.specs.Held.{state}
+use Rattle.sqltables.specs.Schema.{v2}
+use Rattle.sqltables.specs.Tables.{IsEmptied, NoneStaged}
+use Rattle.sqltables.specs.Inside.{HasSchema}
+use Rattle.sqlchanges.proofs.StagedRows.{emptied_itself}
+use Rattle.sqlchanges.proofs.staged.empty_staged.Goals as goal
+
+pub returns-then-not-branch-clause-emptied : goal.returns-then-not-branch-clause-emptied
+returns-then-not-branch-clause-emptied g c has inside clean =
+    let old = state g.S.Store c.args.tx.now.conn.now in
+    let new = state g.S.Store c.has_staged.new.tx.conn.now in
+    emptied_itself old.now new.now (c.in_ok-has_staged.ensures.same has inside clean) ((c.in_ok-has_staged.ensures.found has inside clean).0 c.if-not-branch.true)
+
+pub returns-clause-emptied : goal.returns-clause-emptied
+returns-clause-emptied g c has inside clean =
+    let old = state g.S.Store c.args.tx.now.conn.now in
+    let asked = state g.S.Store c.has_staged.new.tx.conn.now in
+    let mid = state g.S.Store c.delete_staged.new.tx.conn.now in
+    let new = state g.S.Store c.has_staged-2.new.tx.conn.now in
+    let mid_clean : HasCleanDisk mid = omega (arith, clean, c.has_staged-2.ensures.rest.survives.clean) in
+    let asked_clean : HasCleanDisk asked = omega (arith, mid_clean, c.delete_staged.ensures.rest.survives.clean) in
+    let still : asked.now ≡ old.now = c.in_ok-has_staged.ensures.same has inside asked_clean in
+    let asked_running = c.in_ok-has_staged.ensures.rest.running asked_clean inside in
+    let was_open = (c.has_staged.ensures.rest.uncommitted asked_clean inside).was_open asked_running.1 in
+    let asked_schema : HasSchema v2.schema asked = λ is_open. ap (λ (d : Database). d.schema) still ∙ has was_open in
+    let running = c.in_ok-delete_staged.ensures.rest.running mid_clean in
+    let kept = c.in_ok-delete_staged.ensures.schema asked_schema mid_clean in
+    let mid_schema : HasSchema v2.schema mid = λ is_open. kept ∙ asked_schema asked_running.1 in
+    let same : new.now ≡ mid.now = c.in_ok-has_staged-2.ensures.same mid_schema running.0 clean in
+    let none : NoneStaged mid.now.trees = (c.in_ok-has_staged-2.ensures.found mid_schema running.0 clean).0 c.if-branch.false in
+    let it : IsEmptied asked.now mid.now = record { schema = kept; others = c.in_ok-delete_staged.ensures.others asked_schema mid_clean; none = none } in
+    subst (λ (d : Database). IsEmptied d new.now) still (subst (IsEmptied asked.now) (sym same) it)
+
+pub returns-clause-same : goal.returns-clause-same
+returns-clause-same g c has inside clean none =
+    let asked = state g.S.Store c.has_staged.new.tx.conn.now in
+    let asked_clean : HasCleanDisk asked = omega (arith, clean, c.has_staged-2.ensures.rest.survives.clean, c.delete_staged.ensures.rest.survives.clean) in
+    absurd (let no = (c.in_ok-has_staged.ensures.found has inside asked_clean).1 none in let yes = c.if-not-branch.false in cc)
+
+pub returns-clause-done : goal.returns-clause-done
+returns-clause-done g c tables pends = c.in_ok-has_staged-2.ensures.still tables (c.in_ok-delete_staged.ensures.done tables (c.in_ok-has_staged.ensures.still tables pends))

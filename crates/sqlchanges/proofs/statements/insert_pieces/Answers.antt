@@ -1,0 +1,40 @@
+use Rattle.std.proofs.Common.{Bor, ℕ, List, option_map, ◌≡◌, ◌+◌, ◌*◌, ◌≤◌, length, Some, arith, sym, ap, subst, ◌∙◌, rules}
+use Rattle.sqlite.specs.State.{HasCleanDisk}
+use Rattle.sqlite.specs.Held.{state}
+use Rattle.boxes.specs.State.{Place}
+use Rattle.sqltables.specs.Tables.{piece_of}
+use Rattle.sqltables.specs.Changes.{with_pieces}
+use Rattle.sqltables.specs.Means.{Pends}
+use Rattle.sqltables.proofs.Building.{survives_then, keeps_then, one_more, all_pieces}
+use Rattle.sqltables.specs.Staging.{held}
+use Rattle.sqltables.proofs.Held.{none_left}
+use Rattle.sqlchanges.proofs.statements.insert_pieces.Goals as goal
+
+pub loop-piece-preserved : goal.loop-piece-preserved
+loop-piece-preserved g c =
+    let entry = state g.S.Store c.args.tx.now.conn.now in
+    let mid = state g.S.Store c.loop-piece.tx.conn.now in
+    let new = state g.S.Store c.insert_piece.new.tx.conn.now in
+    let place : Place = record { box = c.args.box_name.now; name = c.args.name.now } in
+    let bytes = held c.args.bytes.now in
+    let count = c.loop-piece.part in
+    let built = c.loop-piece.invariant.1 in
+    let early : HasCleanDisk new → HasCleanDisk mid = λ clean. omega (arith, c.in_ok-insert_piece.ensures.rest.survives.clean) in
+    let is : piece_of bytes count ≡ Some c.in-Some.piece.now = sym c.piece.ensures ∙ ap (option_map (λ (piece : Bor (List ℕ)). piece.now)) c.in-Some.is in (
+      c.in_ok-insert_piece.ensures.rest.same_reference ∙ c.loop-piece.invariant.0,
+      record {
+        uncommitted = λ clean. keeps_then entry mid new (built.uncommitted (early clean)) (c.in_ok-insert_piece.ensures.rest.uncommitted clean);
+        survives = survives_then entry mid new built.survives c.in_ok-insert_piece.ensures.rest.survives;
+        running = λ clean _. c.in_ok-insert_piece.ensures.rest.running clean;
+        done = λ v tables ours pends none.
+            c.in_ok-insert_piece.ensures.done v (with_pieces tables place bytes count) (with_pieces tables place bytes (count + 1)) ours (built.done v tables ours pends none)
+            (one_more tables place bytes count c.in-Some.piece.now is);
+      },
+    )
+
+pub returns-clause-done : goal.returns-clause-done
+returns-clause-done g c v tables ours pends none =
+    let place : Place = record { box = c.args.box_name.now; name = c.args.name.now } in
+    let bytes = held c.args.bytes.now in
+    let all : length bytes ≤ 65536 * c.loop-piece.part = none_left bytes c.loop-piece.part (search rules) in
+    subst (λ t. Pends v (state g.S.Store c.loop-piece.tx.conn.now) t) (all_pieces tables place bytes c.loop-piece.part all) (c.loop-piece.invariant.1.done v tables ours pends none)

@@ -1,0 +1,8 @@
+//! What is written into an office file, inside a transaction.
+#![tactic(auto)]
+
+mod box_rows;
+pub mod changes;
+pub mod making;
+pub mod staged;
+mod statements;

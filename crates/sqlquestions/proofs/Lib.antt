@@ -1,0 +1,11 @@
+pub mod ManyQuestions
+pub mod PointQueries
+pub mod LimitQueries
+pub mod LastNumber
+pub mod Different
+pub mod ClerkRows
+pub mod FileBytes
+pub mod Compared
+pub mod FollowingTexts
+pub mod FirstBehind
+pub mod FollowingRows

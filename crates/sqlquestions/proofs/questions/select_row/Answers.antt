@@ -1,0 +1,21 @@
+use Rattle.std.proofs.Common.{◌≡◌, ◌+◌, arith, sym, subst, vec_len, MatchOption}
+use Rattle.sqlite_rules.specs.Lists.{Has}
+use Rattle.sqlite.specs.State.{HasCleanDisk}
+use Rattle.sqlite.specs.Held.{state}
+use Rattle.sqltables.proofs.Asked.{no_items, last_has, still_pends}
+use Rattle.sqlquestions.proofs.questions.select_row.Goals as goal
+
+pub returns-clause-shown : goal.returns-clause-shown
+returns-clause-shown g c clean = let rows = c.in_ok-rows.rows in record {
+  rows = c.in_ok-rows.rows.items;
+  shown = c.in_ok-rows.ensures.ok clean;
+  some = λ r is. subst (λ l. Has l r) (sym c.pop.ensures.items) (last_has c.pop.new.self.items c.pop.result r is);
+  none = λ is. let none = subst (λ o. MatchOption o ((vec_len rows ≡ 0) × (vec_len c.pop.new.self ≡ 0)) (λ x. vec_len c.pop.new.self + 1 ≡ vec_len rows)) is c.pop.ensures.cases in no_items rows.items (omega (arith, none.0, rows.ok));
+}
+
+pub returns-clause-still : goal.returns-clause-still
+returns-clause-still g c v tables plain pends clean inside is_open =
+    let old = state g.S.Store c.args.tx.now.conn.now in
+    let new = state g.S.Store c.query.new.tx.conn.now in
+    let early : HasCleanDisk old = omega (arith, c.query.ensures.rest.survives.clean) in
+    still_pends v tables c.args.sql.now _ old new c.in_ok-rows.rows.items plain early pends (c.in_ok-rows.ensures.ok clean) inside

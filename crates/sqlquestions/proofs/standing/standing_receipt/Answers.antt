@@ -1,0 +1,25 @@
+use Rattle.std.proofs.Common.{◌≡◌, Some, arith, sym, ◌∙◌}
+use Rattle.sqlite.specs.State.{HasCleanDisk}
+use Rattle.sqlite.specs.Held.{state}
+use Rattle.boxes.specs.State.{Place}
+use Rattle.boxes.specs.Views.{IsReceiptAt}
+use Rattle.std.proofs.Common.{slice_get}
+use Rattle.sqltables.specs.Tables.{tables_of}
+use Rattle.sqltables.specs.Questions.{IsReceiptOf}
+use Rattle.sqltables.proofs.StandingFiles.{if_ok_more, standing, digests, kept, listed_at, receipt_found}
+use Rattle.sqlquestions.proofs.standing.standing_receipt.Goals as goal
+
+pub returns-in-Some-clause-found : goal.returns-in-Some-clause-found
+returns-in-Some-clause-found g c v s ours pends sound inside clean =
+    let place : Place = record { box = c.args.in_box.now; name = c.args.name.now } in
+    let early : HasCleanDisk (state g.S.Store c.file_number.new.tx.conn.now) = omega (arith, c.receipt.ensures.rest.survives.clean) in
+    let is : (tables_of s).file place ≡ Some c.in-Some.number = sym (c.in_ok-number.ensures.found v (tables_of s) ours pends inside early) ∙ c.in-Some.is in
+    let it = standing s place c.in-Some.number is in
+    let at = (kept s sound place c.in-Some.number it).listed.place in
+    let still = c.in_ok-number.ensures.still v (tables_of s) ours pends in
+    let running = c.in_ok-number.ensures.rest.running early inside in
+    if_ok_more (IsReceiptOf c.in-Some.number (slice_get s.receipts at)) (IsReceiptAt s place) c.receipt.result (receipt_found s sound place c.in-Some.number it)
+    (c.receipt.ensures.found v (tables_of s) at ours still (listed_at s sound place c.in-Some.number it) (digests s sound at) running.0 clean)
+
+pub returns-in-Some-clause-still : goal.returns-in-Some-clause-still
+returns-in-Some-clause-still g c v tables ours pends = c.receipt.ensures.still v tables ours (c.in_ok-number.ensures.still v tables ours pends)

@@ -1,3 +1,0 @@
-pub mod BoxRows
-pub mod Following
-pub mod Pieces

@@ -1,7 +1,0 @@
--- Bytes that are read in pieces.
-use Rattle.std.specs.Prelude.{ℕ, List}
-use Rattle.sqlstatements.specs.declared.pieces.Pieces.{Pieces}
-
--- all the bytes in order
-abbrev pub held : Pieces → List ℕ
-held pieces = pieces.bytes.items
