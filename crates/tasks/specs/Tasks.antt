@@ -184,14 +184,29 @@ serve_app =
 unfoldable pub migrate_app : App
 migrate_app = with_rule (new_app (codes "migrate")) file_rule
 
--- drop COMMAND, which shows help if no word follows, and can show its version
+-- drop without its commands; it shows help if no word follows, and can show its version
+abbrev pub bare_app : App
+bare_app = on_top (λ s. record s { subcommand_required = true; arg_required_else_help = true; has_version = true }) (new_app (codes "drop"))
+
+-- this with the commands that make an office, run lines of its desk and sign links
+abbrev pub with_desk_commands : App → App
+with_desk_commands app =
+    let with_desk = with_subcommand (with_subcommand app init_app.top) desk_app.top in
+    with_subcommand (with_subcommand with_desk link_app.top) links_app.top
+
+-- this with the commands that list what an office holds, and write its files
+abbrev pub with_list_commands : App → App
+with_list_commands app =
+    let with_manifests = with_subcommand (with_subcommand app manifest_app.top) compare_app.top in
+    with_subcommand (with_subcommand with_manifests list_app.top) export_app.top
+
+-- this with the commands that answer requests, and that migrate an office file
+abbrev pub with_server_commands : App → App
+with_server_commands app = with_subcommand (with_subcommand (with_subcommand app replay_app.top) serve_app.top) migrate_app.top
+
+-- drop COMMAND
 unfoldable pub drop_app : App
-drop_app =
-    let needs_command = on_top (λ s. record s { subcommand_required = true; arg_required_else_help = true; has_version = true }) (new_app (codes "drop")) in
-    let with_desk = with_subcommand (with_subcommand needs_command init_app.top) desk_app.top in
-    let with_lists = with_subcommand (with_subcommand (with_subcommand (with_subcommand with_desk link_app.top) links_app.top) manifest_app.top) compare_app.top in
-    let with_files = with_subcommand (with_subcommand with_lists list_app.top) export_app.top in
-    with_subcommand (with_subcommand (with_subcommand with_files replay_app.top) serve_app.top) migrate_app.top
+drop_app = with_server_commands (with_list_commands (with_desk_commands bare_app))
 
 -- ---- the values in the matches
 

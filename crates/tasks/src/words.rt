@@ -2,7 +2,7 @@
 ghost use Rattle.std.specs.Prelude.{◌≡◌, IfOk, false};
 ghost use Rattle.clap.specs.Words.{app_of, rule_of};
 ghost use Rattle.clap.specs.declared.builder.command.Command.TheViews.{out-Command};
-ghost use Rattle.tasks.specs.Tasks.{compare_app, desk_app, drop_app, export_app, init_app, link_app, links_app, list_app, manifest_app, migrate_app, replay_app, serve_app, target_app, allowance_rule, connections_rule, expires_rule, host_rule, key_rule, minutes_rule, open_rule, option_rule, optional_rule, patience_rule, region_rule, streams_rule, word_rule};
+ghost use Rattle.tasks.specs.Tasks.{allowance_rule, bare_app, compare_app, connections_rule, desk_app, drop_app, expires_rule, export_app, host_rule, init_app, key_rule, link_app, links_app, list_app, manifest_app, migrate_app, minutes_rule, open_rule, option_rule, optional_rule, patience_rule, region_rule, replay_app, serve_app, streams_rule, target_app, with_desk_commands, with_list_commands, with_server_commands, word_rule};
 
 use clap::builder::ValueParser;
 use clap::{Arg, Command};
@@ -172,6 +172,15 @@ For an office file called office:
 pub(crate) fn command_line<'a>(alloc: Global) -> Result<Command<'a>, AllocError>
     ensures { IfOk result (λ c. app_of c ≡ drop_app) }
 {
+    let with_desk = add_desk_commands(alloc, bare_line(alloc))?;
+    let with_lists = add_list_commands(alloc, with_desk)?;
+    add_server_commands(alloc, with_lists)
+}
+
+// `drop` without its commands.
+fn bare_line<'a>(alloc: Global) -> Command<'a>
+    ensures { app_of result ≡ bare_app }
+{
     Command::new(alloc, "drop")
         .version(VERSION)
         .about(
@@ -179,15 +188,33 @@ pub(crate) fn command_line<'a>(alloc: Global) -> Result<Command<'a>, AllocError>
         )
         .subcommand_required(true)
         .arg_required_else_help(true)
-        .subcommand(init_command(alloc)?)?
+}
+
+// `init`, `desk`, `link`, `links`.
+fn add_desk_commands<'a>(alloc: Global, line: Command<'a>) -> Result<Command<'a>, AllocError>
+    ensures { IfOk result (λ c. app_of c ≡ with_desk_commands (app_of line.entry)) }
+{
+    line.subcommand(init_command(alloc)?)?
         .subcommand(desk_command(alloc)?)?
         .subcommand(link_command(alloc)?)?
-        .subcommand(links_command(alloc)?)?
-        .subcommand(manifest_command(alloc)?)?
+        .subcommand(links_command(alloc)?)
+}
+
+// `manifest`, `compare`, `list`, `export`.
+fn add_list_commands<'a>(alloc: Global, line: Command<'a>) -> Result<Command<'a>, AllocError>
+    ensures { IfOk result (λ c. app_of c ≡ with_list_commands (app_of line.entry)) }
+{
+    line.subcommand(manifest_command(alloc)?)?
         .subcommand(compare_command(alloc)?)?
         .subcommand(list_command(alloc)?)?
-        .subcommand(export_command(alloc)?)?
-        .subcommand(replay_command(alloc)?)?
+        .subcommand(export_command(alloc)?)
+}
+
+// `replay`, `serve`, `migrate`.
+fn add_server_commands<'a>(alloc: Global, line: Command<'a>) -> Result<Command<'a>, AllocError>
+    ensures { IfOk result (λ c. app_of c ≡ with_server_commands (app_of line.entry)) }
+{
+    line.subcommand(replay_command(alloc)?)?
         .subcommand(serve_command(alloc)?)?
         .subcommand(migrate_command(alloc)?)
 }
