@@ -4,7 +4,8 @@ memory allow. `rt ci` keeps what it proves on this machine, and a later run take
 The code of `rt` does the work. Three things are different here:
 
 - `rt` allows each check more memory than it was ever seen to take, so few run in parallel. Here it is half as much.
-- The crates with the most work behind them come first, by the seconds in ci/seconds.txt. `rt` counts lines.
+- The crates with the most work behind them come first, by the seconds in ci/seconds.txt. `rt` counts lines. A check has more than
+  one processor only if no other check can use it.
 - With `--program`, one compiler builds the program, which stays in `crates/NAME/out`. `rt ci` uses two, and compares what both
   programs write.
 
@@ -15,6 +16,7 @@ and for how long. The output of `rt` goes to a file, which that line names.
 import argparse
 import concurrent.futures
 import contextlib
+import heapq
 import os
 import pathlib
 import shutil
@@ -32,8 +34,10 @@ SHARE = 0.5
 SECONDS = pathlib.Path(__file__).with_name("seconds.txt")
 # The seconds for each line of a crate that is not listed there.
 PER_LINE = 0.05
-# The share of the processors that are busy.
-BUSY = 0.8
+# The share of a check that several processors do in parallel.
+PARALLEL = 0.4
+# The share of a check's memory that each processor more takes, as `rt` has it.
+MORE_MEMORY = 0.6
 # The share of the free memory that checks may take.
 MOST_MEMORY = 0.85
 # How often the line is written anew, in seconds, and the lines that are shown of a log that ends in a failure.
@@ -67,7 +71,7 @@ class Progress:
         self.left = {it: tasks[it][1] for it in tasks if tasks[it][1]}
         self.crates = len({crate for crate, *_ in self.left})
         lanes = RT.processors()
-        about = sum(self.left.values()) / BUSY / lanes / 60
+        about = expected(tasks, lanes) / 60
         self.say(f"proving {self.crates} crates on {lanes} processors: about {about:.0f} min from nothing")
 
     def watched(self, key, call):
@@ -137,22 +141,27 @@ class Lanes:
 
     def begin(self):
         """Begins the tasks for which there is room."""
-        ready = [it for it in self.left if all(below in self.given for below in self.tasks[it][0])]
-        for key in ready:
-            _, _, needs, call = self.tasks[key]
-            if not self.free or self.running and needs > self.memory:
+        for key, jobs in next_tasks(self.tasks, self.left, self.given, self.free):
+            while jobs > 1 and self.needs(key, jobs) > self.memory:
+                jobs -= 1
+            needs = self.needs(key, jobs)
+            if self.running and needs > self.memory:
                 return
             self.left.remove(key)
-            self.free, self.memory = self.free - 1, self.memory - needs
-            self.running[self.pool.submit(call, self.given, 1)] = key, needs
+            self.free, self.memory = self.free - jobs, self.memory - needs
+            self.running[self.pool.submit(self.tasks[key][3], self.given, jobs)] = key, needs, jobs
+
+    def needs(self, key, jobs):
+        """The memory that the task takes with so many processors."""
+        return self.tasks[key][2] * (1 + MORE_MEMORY * (jobs - 1))
 
     def run(self):
         """Runs them all, and returns what each gave."""
         while self.left or self.running:
             self.begin()
             for it in concurrent.futures.wait(self.running, return_when=concurrent.futures.FIRST_COMPLETED).done:
-                key, needs = self.running.pop(it)
-                self.free, self.memory = self.free + 1, self.memory + needs
+                key, needs, jobs = self.running.pop(it)
+                self.free, self.memory = self.free + jobs, self.memory + needs
                 self.given[key] = it.result()
         return self.given
 
@@ -164,6 +173,25 @@ def in_order(tasks):
         for it in tasks[key][0]:
             behind[it] = max(behind[it], tasks[it][1] + behind[key])
     return sorted(tasks, key=lambda it: -behind[it])
+
+
+def next_tasks(tasks, left, given, free):
+    """The tasks to begin now on the free processors, each with how many of them it has."""
+    ready = [it for it in left if all(below in given for below in tasks[it][0])][:free]
+    return [(it, (free - at - 1) // len(ready) + 1) for at, it in enumerate(ready)]
+
+
+def expected(tasks, lanes):
+    """How many seconds the tasks will take on so many processors."""
+    left, given = [it for it in in_order(tasks) if tasks[it][1]], {it for it in tasks if not tasks[it][1]}
+    now, running = 0, []
+    while left or running:
+        for key, jobs in next_tasks(tasks, left, given, lanes - sum(it[2] for it in running)):
+            left.remove(key)
+            heapq.heappush(running, (now + tasks[key][1] * (1 - PARALLEL + PARALLEL / jobs), key, jobs))
+        now, key, _ = heapq.heappop(running)
+        given.add(key)
+    return now
 
 
 def arrange(progress, wants_program):
