@@ -57,13 +57,30 @@ def without_brackets(text):
     return text
 
 
+def after_brackets(text):
+    """What stands in the angle brackets that the text begins with, and what stands behind them."""
+    depth = 0
+    for at, it in enumerate(text):
+        depth += (it == "<") - (it == ">" and text[at - 1] != "-")
+        if not depth:
+            return text[1:at], text[at + 1:]
+    return "", text
+
+
 def block_name(rest, kind):
-    """The name that a check gives to what an `impl` or a trait has: its type, and behind it the trait that it implements."""
+    """The name that a check gives to what an `impl` or a trait has: its type, and behind it the trait that it implements. Behind the
+    type of an `impl` that is not for all its parameters stand the names of these."""
     words = without_brackets(rest).partition("{")[0].partition(" where ")[0].strip()
     if kind == "trait":
         return re.match(r"\w+", words)[0], True
     trait, _, name = words.rpartition(" for ")
     last = [re.split(r"::", it.strip().lstrip("&").strip())[-1] for it in (name, trait) if it.strip()]
+    params, of = after_brackets(rest) if rest.startswith("<") else ("", rest)
+    found = re.match(r"\s*\w+<(.*)>\s*\{$", of)
+    if not trait and found:
+        own = re.findall(r"(?:^|, )(\w+)", without_brackets(params))
+        names = re.findall(r"\w+", re.sub(r"'\w+", "", found[1]))
+        last += [f"+{it}" for it in names] if set(names) - set(own) else []
     return "".join(last), False
 
 
@@ -98,6 +115,7 @@ def public_clauses(crate):
     passed_on = {it for module in modules for names in PASSED_ON.findall(module.text) for it in re.findall(r"\w+", names)}
     for module in modules:
         for block, is_trait, name, is_marked, clauses in functions_in(module):
-            path = "::".join(filter(None, [place_of.get(block, module.path), block, name]))
-            if is_marked and (module.is_public or (block or name) in passed_on):
+            of = block.partition("+")[0]
+            path = "::".join(filter(None, [place_of.get(of, module.path), block, name]))
+            if is_marked and (module.is_public or (of or name) in passed_on):
                 yield from (Clause(path, it, is_trait) for it in clauses)

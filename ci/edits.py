@@ -466,9 +466,9 @@ def show_clauses(names, count):
         for clause in public_clauses(crate) if not names or crate.name in names else []:
             own = guards[clause.function, clause.name]
             block, _, method = clause.function.rpartition("::")
-            impl = f"{block.rpartition('::')[2]}::{method}"
+            impl = re.compile(rf"{re.escape(block.rpartition('::')[2])}([A-Z]\w*)?::{method}$")
             own = own + [name for (function, it), edits in guards.items() if it == clause.name and clause.is_of_a_trait
-                         and function.endswith(impl) for name in edits]
+                         and impl.search(function) for name in edits]
             own = " ".join(own) or reasons.get(str(clause))
             count.add(str(clause), None if own else "no edit guards it")
             if own:
