@@ -2,17 +2,17 @@
 use Rattle.std.proofs.Common.{◌≡◌, ℕ, List, Option, Result, Ok, Err, IfOk, IfErr, inl, inr, refl, subst, sym}
 use Rattle.boxes.specs.State.{State}
 use Rattle.keeper.specs.declared.keep.Keeper.{Ghosts}
-use Rattle.office.specs.declared.connections.seat.Seat.{Seat}
+use Rattle.seats.specs.declared.seat.Seat.{Seat}
 use Rattle.wire.specs.declared.gathered.Gathered.{Gathered}
 use Rattle.wire.specs.declared.outbox.Outbox.{Outbox}
 use Rattle.std.specs.Prelude.{IsOkAnd}
 use Rattle.std.specs.declared.net.socket_addr.SocketAddrV4.{SocketAddrV4}
 use Rattle.std.specs.declared.io.Error.{Error}
-use Rattle.sockets.specs.Accepting.{ServesMany, at_least_one}
+use Rattle.service.specs.Serving.{ServesMany, at_least_one}
 use Rattle.sockets.specs.Listening.{Event}
-use Rattle.sockets.specs.declared.serving.Limits.{Limits}
-use Rattle.sockets.specs.declared.serving.Outcome.{Outcome}
-use Rattle.sockets.specs.declared.serving.Served.{Served}
+use Rattle.sockets.specs.declared.preparing.Limits.{Limits}
+use Rattle.service.specs.declared.serving.Outcome.{Outcome}
+use Rattle.service.specs.declared.serving.Served.{Served}
 use Rattle.commands.specs.Asking.{Asked, turns}
 use Rattle.commands.specs.Serving.{IsFine, MayServe, ServesFrom}
 use Rattle.commands.specs.Working.{Passes}

@@ -5,18 +5,20 @@ use Rattle.std.specs.declared.io.Error.{Error}
 use Rattle.std.specs.declared.net.socket_addr.SocketAddrV4.{SocketAddrV4}
 use Rattle.boxes.specs.State.{State}
 use Rattle.office.specs.Connections.{TellsMoments}
-use Rattle.office.specs.Crowds.{is_fault_end, standing_in}
+use Rattle.seats.specs.Crowds.{standing_in}
+use Rattle.office.specs.Crowds.{is_fault_end}
 use Rattle.office.specs.Interleaved.{GaveUpWithinMessages, Interleaved, SpeakInTurns, Thread, acts_in}
 use Rattle.office.specs.Repeats.{RepeatsOnce}
 use Rattle.office.specs.Seats.{AreThreads, HaveTurns, TellsOneMoment, turns_of}
-use Rattle.office.specs.declared.connections.seat.Seat.{Seat}
+use Rattle.seats.specs.declared.seat.Seat.{Seat}
 use Rattle.wire.specs.declared.gathered.Gathered.{Gathered}
 use Rattle.wire.specs.declared.outbox.Outbox.{Outbox}
-use Rattle.sockets.specs.Accepting.{Accepts, HasGiven, at_least_one}
+use Rattle.sockets.specs.Accepting.{HasGiven}
+use Rattle.service.specs.Serving.{Accepts, at_least_one}
 use Rattle.sockets.specs.Listening.{Event}
-use Rattle.sockets.specs.declared.serving.Limits.{Limits}
-use Rattle.sockets.specs.declared.serving.Outcome.{Outcome}
-use Rattle.sockets.specs.declared.serving.Served.{Served}
+use Rattle.sockets.specs.declared.preparing.Limits.{Limits}
+use Rattle.service.specs.declared.serving.Outcome.{Outcome}
+use Rattle.service.specs.declared.serving.Served.{Served}
 use Rattle.commands.specs.Asking.{Asked, turns}
 use Rattle.commands.specs.Listing.{Looks}
 use Rattle.commands.specs.declared.serving.Ending.{Ending}

@@ -5,7 +5,7 @@ use Rattle.std.specs.Duration.{as_nanos}
 use Rattle.std.specs.declared.time.Duration.{Duration}
 use Rattle.std.specs.declared.net.socket_addr.SocketAddrV4.{SocketAddrV4}
 use Rattle.std.specs.Net.Grammar.{IsSocketV4Text}
-use Rattle.sockets.specs.declared.serving.Limits.{Limits}
+use Rattle.sockets.specs.declared.preparing.Limits.{Limits}
 use Rattle.tasks.specs.declared.task.Serve.{Serve}
 
 -- the text writes the number in decimal digits, with or without a plus before them

@@ -15,7 +15,7 @@ use Rattle.boxes.specs.State.{State as Office}
 use Rattle.boxes.specs.declared.rows.OfficeRow.{OfficeRow}
 use Rattle.sqltables.specs.Schema.{s0}
 use Rattle.sockets.specs.Listening.{Event}
-use Rattle.sockets.specs.declared.serving.Limits.{Limits}
+use Rattle.sockets.specs.declared.preparing.Limits.{Limits}
 use Rattle.tasks.specs.Tasks.{IsFaultOf, IsTaskOf, drop_app}
 use Rattle.tasks.specs.declared.task.Task.{Task}
 use Rattle.tasks.specs.declared.task.Task.TheVariants as task

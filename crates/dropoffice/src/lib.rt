@@ -10,12 +10,14 @@ mod works;
 pub use commands::{Ending, Fault, Machine, Outside};
 pub use office::{
     Answer, Clock, Counted, DeskFault, FixedClock, ListedClock, MachineClock, Message, Office,
-    SessionEnd, law_of_acts, law_of_alike, law_of_replies,
+    law_of_acts, law_of_alike, law_of_replies,
 };
 pub use opening::Left;
 pub use program::{Performed, perform};
 pub use replays::{Replayed, replay_bytes, replay_in_memory, replay_over};
-pub use sockets::{Limits, Outcome, Served, serve};
+pub use seats::SessionEnd;
+pub use service::{Outcome, Served, serve};
+pub use sockets::Limits;
 pub use sqlite::{Start, Unknown};
 pub use tasks::{
     Desk, Export, Init, Link, Links, Listing, OfficeFile, Replay, Secret, Serve, Task,

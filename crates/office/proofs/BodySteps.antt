@@ -32,8 +32,8 @@ use Rattle.office.specs.Sessions.{HasBegunMessage}
 use Rattle.office.specs.Stepping.{IsClosed, IsExpected, LeavesOff, Steps}
 use Rattle.office.specs.declared.connections.handling.Handled.{Handled}
 use Rattle.office.specs.declared.connections.handling.Handled.TheVariants as handled
-use Rattle.office.specs.declared.connections.session.SessionEnd.{SessionEnd}
-use Rattle.office.specs.declared.connections.session.SessionEnd.TheVariants.{Refused, ReadFault, WriteFault}
+use Rattle.seats.specs.declared.session.SessionEnd.{SessionEnd}
+use Rattle.seats.specs.declared.session.SessionEnd.TheVariants.{Refused, ReadFault, WriteFault}
 use Rattle.office.specs.Answering.{is_head}
 use Rattle.office.specs.Connections.{MayGiveUp}
 use Rattle.office.specs.Handling.{Handles}

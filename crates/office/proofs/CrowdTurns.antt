@@ -7,17 +7,20 @@ use Rattle.std.proofs.lemmas.List.Sums.{sum_by-cons, sum_by-set, sum_by_push}
 use Rattle.std.proofs.lemmas.Option.{slice_get_within}
 use Rattle.keeper.specs.declared.keep.Keeper.{Ghosts}
 use Rattle.boxes.specs.State.{State}
-use Rattle.office.specs.Crowds.{Changes, IsOpenAt, ServesCrowd, TurnsSlot, fails_now, is_fault_end, number_of, numbers_after, slot_at, standing_in}
-use Rattle.office.specs.Crowds as crowd
+use Rattle.seats.specs.Crowds.{Changes, IsOpenAt, number_of, numbers_after, slot_at, standing_in}
+use Rattle.seats.specs.Crowds as crowd
+use Rattle.office.specs.Crowds.{ServesCrowd, TurnsSlot, fails_now, is_fault_end}
+use Rattle.office.specs.Crowds as in_turn
 use Rattle.office.specs.Interleaved.{Thread, Turn}
 use Rattle.office.specs.Premise.{IsLeft}
-use Rattle.office.specs.Seats.{AreThreads, Gathers, IsNew, Sends, TakesTurn, TellsTurn}
-use Rattle.office.specs.declared.connections.seat.Seat.{Seat}
-use Rattle.office.specs.declared.connections.session.SessionEnd.{SessionEnd}
+use Rattle.seats.specs.Seats.{Gathers, IsNew, Sends}
+use Rattle.office.specs.Seats.{AreThreads, TakesTurn, TellsTurn}
+use Rattle.seats.specs.declared.seat.Seat.{Seat}
+use Rattle.seats.specs.declared.session.SessionEnd.{SessionEnd}
 use Rattle.office.proofs.RunSoFar.{MeansOne}
 use Rattle.office.proofs.SeatTurns.{AllTell, TurnsMore, as_many, gathered_seat, gathers_tell, seat_comes, sent_seat, tell_comes, tell_more, tell_sent, turns_more, weaves_last}
-use Rattle.office.proofs.Standings.{all_comes, all_goes, all_none, all_set}
-use Rattle.office.proofs.Ties.{AreNumbered, Ties, none_is, numbered_comes, numbered_goes, numbered_none, numbered_set, some_is, ties_comes, ties_goes, ties_none, ties_set}
+use Rattle.seats.proofs.Standings.{all_comes, all_goes, all_none, all_set}
+use Rattle.seats.proofs.Ties.{AreNumbered, Ties, none_is, numbered_comes, numbered_goes, numbered_none, numbered_set, some_is, ties_comes, ties_goes, ties_none, ties_set}
 use Rattle.office.proofs.Weaving.{starts}
 
 -- ---- how many ended by a fault
@@ -223,8 +226,8 @@ module _ {R W : Type 0} (remaining : R → Option (List ℕ)) (contents : W → 
       slot_turns : (p : ℕ) (was now : Option (Seat R W)) (failed : Bool) (seat : Seat R W) → p < length slots → slot_at slots p ≡ was → was ≡ Some seat → seat.end ≡ None
           → TurnsSlot gives remaining contents clock' clock'' k keeper' keeper'' mid after was now failed → Now slots numbers came gone given clock' keeper' faults mid
           → Now (set slots p now) numbers came gone (given ++ numbers p ∷ []) clock'' keeper'' (faults + cond failed 1 0) after
-      slot_turns p _ _ _ seat lt at there is_open (crowd.nobody same_clock same_keeper same_state) t = absurd (none_is seat there)
-      slot_turns p _ _ _ seat lt at there is_open (crowd.taken old new turn tells) t =
+      slot_turns p _ _ _ seat lt at there is_open (in_turn.nobody same_clock same_keeper same_state) t = absurd (none_is seat there)
+      slot_turns p _ _ _ seat lt at there is_open (in_turn.taken old new turn tells) t =
           takes_more p old new lt at (subst (λ (x : Seat R W). x.end ≡ None) (sym (some_is old seat there)) is_open) turn tells t
 
       -- the same for a slot whose turn is due
@@ -295,4 +298,4 @@ module _ {R W C K : Type 0} (remaining : R → Option (List ℕ)) (contents : W 
   taken_by slot slot' failed old new is is' told turn tells =
       subst (λ o. TurnsSlot gives remaining contents clock clock' k keeper keeper' s after o slot' failed) (sym is)
       (subst (λ o. TurnsSlot gives remaining contents clock clock' k keeper keeper' s after (Some old) o failed) (sym is')
-      (subst (TurnsSlot gives remaining contents clock clock' k keeper keeper' s after (Some old) (Some new)) (sym told) (crowd.taken old new turn tells)))
+      (subst (TurnsSlot gives remaining contents clock clock' k keeper keeper' s after (Some old) (Some new)) (sym told) (in_turn.taken old new turn tells)))

@@ -28,8 +28,8 @@ use Rattle.office.specs.Readable.{IsReadable}
 use Rattle.office.specs.Sent.{IsSent}
 use Rattle.office.specs.Sessions.{closing}
 use Rattle.office.specs.Stepping.{IsClosed}
-use Rattle.office.specs.declared.connections.session.SessionEnd.{SessionEnd}
-use Rattle.office.specs.declared.connections.session.SessionEnd.TheVariants.{Ended, Truncated, Refused, Limit, ReadFault, WriteFault}
+use Rattle.seats.specs.declared.session.SessionEnd.{SessionEnd}
+use Rattle.seats.specs.declared.session.SessionEnd.TheVariants.{Ended, Truncated, Refused, Limit, ReadFault, WriteFault}
 use Rattle.office.proofs.Endurance.{through}
 
 closes_always : (is_head : Bool) → answer_text is_head (said.Refused rule.TryAgain) ≡ closing rule.TryAgain

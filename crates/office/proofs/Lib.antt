@@ -18,7 +18,6 @@ pub mod Once
 pub mod RepeatEdges
 pub mod Repeats
 pub mod Standing
-pub mod Standings
 pub mod Placing
 pub mod Begun
 pub mod BodySteps
@@ -32,8 +31,6 @@ pub mod RunTurns
 pub mod SeatTurns
 pub mod Sitting
 pub mod Weaving
-pub mod Ties
 pub mod Counting
 pub mod CrowdTurns
-pub mod Changing
 pub mod WithoutInTurn

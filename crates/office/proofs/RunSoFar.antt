@@ -9,9 +9,10 @@ use Rattle.sigtext.specs.Request.{Request}
 use Rattle.boxes.specs.State.{State}
 use Rattle.keeper.specs.declared.keep.Keeper.{Ghosts}
 use Rattle.wire.specs.declared.counted.Counted.{Counted}
-use Rattle.office.specs.declared.connections.session.SessionEnd.{SessionEnd}
-use Rattle.office.specs.declared.connections.session.SessionEnd.TheVariants.{ReadFault}
-use Rattle.office.specs.Connections.{TellsMoments, IsStream, Serves, TellsFaults, HoldsUpOver, HoldsUpTo, LastsOverAll, StaysOpen, AreServed, is_fault, Runs}
+use Rattle.seats.specs.declared.session.SessionEnd.{SessionEnd}
+use Rattle.seats.specs.declared.session.SessionEnd.TheVariants.{ReadFault}
+use Rattle.seats.specs.Ends.{is_fault}
+use Rattle.office.specs.Connections.{TellsMoments, IsStream, Serves, TellsFaults, HoldsUpOver, HoldsUpTo, LastsOverAll, StaysOpen, AreServed, Runs}
 use Rattle.office.specs.Crashes.{LastsThrough, never_changed}
 use Rattle.office.specs.Premise.{HoldsUp, IsLeft}
 use Rattle.office.specs.Sessions.{GaveUpAt, GaveUpIn, Session, Connection, Run, most_messages}

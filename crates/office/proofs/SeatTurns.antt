@@ -1,61 +1,35 @@
 -- Seats in turns: how they relate to sittings, and the effect of a turn.
-use Rattle.std.proofs.Common.{◌≡◌, ◌<◌, ◌≤◌, ◌+◌, ℕ, zero, suc, Bool, true, false, List, [], ◌∷◌, ◌++◌, length, get_or, map, set, Option, Some, None, refl, sym, ap, subst, ◌∙◌, arith, inl, inr}
-use Rattle.std.specs.Prelude.{⊤, is_some}
+use Rattle.std.proofs.Common.{◌≡◌, ◌<◌, ◌≤◌, ◌+◌, ℕ, zero, suc, Bool, false, List, [], ◌∷◌, ◌++◌, length, get_or, map, set, Option, Some, None, refl, sym, ap, subst, ◌∙◌, arith}
+use Rattle.std.specs.Prelude.{⊤}
 use Rattle.std.specs.List.{AllByRecursion, sum_by}
 use Rattle.std.proofs.lemmas.List.Sums.{sum_by-cons}
 use Rattle.std.specs.Io.KnownBytes.{Appends, Keeps, prepend_known}
 use Rattle.sigtext.specs.Counts.{Rose}
 use Rattle.keeper.specs.declared.keep.Keeper.{Ghosts}
 use Rattle.boxes.specs.State.{State}
-use Rattle.wire.specs.Feeds.{ahead_of, resumed_at}
-use Rattle.wire.specs.Whole.{MayBegin}
+use Rattle.wire.specs.Feeds.{ahead_of}
 use Rattle.wire.specs.declared.counted.Counted.{Counted}
 use Rattle.wire.specs.declared.feed.Place.{Place}
 use Rattle.wire.specs.declared.feed.Place.TheVariants as place
 use Rattle.wire.specs.declared.standing.Standing.{Standing}
-use Rattle.office.specs.Begins.{may_begin}
 use Rattle.office.specs.Connections.{TellsMoments}
 use Rattle.office.specs.Crashes.{Survives}
 use Rattle.office.specs.Interleaved.{GaveUpWithinMessages, HaveGivenUp, Interleaved, SpeakInTurns, Thread, Turn, acts_in}
 use Rattle.office.specs.Premise.{IsLeft}
 use Rattle.office.specs.Repeats.{RepeatsOnce}
-use Rattle.office.specs.Seats.{AreThreads, Gathers, HaveTurns, LastsOver, Sends, IsNew, IsStreamOf, StaysSo, TakesTurn, TellsOneMoment, TellsTurn, TellsTurnOf, had_ended, went_on, ended, left_of, turns_of}
+use Rattle.seats.specs.Seats.{Gathers, Sends, IsNew, left_of}
+use Rattle.office.specs.Seats.{AreThreads, HaveTurns, LastsOver, IsStreamOf, StaysSo, TakesTurn, TellsOneMoment, TellsTurn, TellsTurnOf, had_ended, went_on, ended, turns_of}
 use Rattle.office.specs.Sessions.{most_messages}
 use Rattle.office.specs.Stepping.{Steps, TellsStep}
-use Rattle.office.specs.declared.connections.seat.Seat.{Seat}
-use Rattle.office.specs.declared.connections.session.SessionEnd.{SessionEnd}
+use Rattle.seats.specs.declared.seat.Seat.{Seat}
+use Rattle.seats.specs.declared.session.SessionEnd.{SessionEnd}
 use Rattle.office.proofs.Counting.{AllTook, took_of}
 use Rattle.office.proofs.Endurance.{survives_more}
 use Rattle.office.proofs.Repeats.{repeats_once}
 use Rattle.office.proofs.RunSoFar.{MeansOne}
 use Rattle.office.proofs.Sitting.{Lost, Sitting, answered, closed, gathered, sent_on}
-use Rattle.office.proofs.Ties.{none_is}
+use Rattle.seats.proofs.Ties.{none_is}
 use Rattle.office.proofs.Weaving.{AreThreadsOf, IsThreadOf, SoFar, all_last, answered_more, closed_more, finishes, gathered_more, lost_of, none_gave_up, opens, sent_more, threads_rose}
-
--- ---- where a message may begin
-
-pub may_begin_there : (p : Place) → may_begin p ≡ true → MayBegin p
-may_begin_there place.Fresh h = inl refl
-may_begin_there place.Between h = inr refl
-may_begin_there (place.Body n) h = absurd cc
-may_begin_there place.Over h = absurd cc
-
--- a feed that was resumed there stands between messages
-pub resumed_between : (p : Place) → MayBegin p → resumed_at p ≡ place.Between
-resumed_between place.Fresh h = refl
-resumed_between place.Between h = refl
-resumed_between (place.Body n) (inl h) = absurd cc
-resumed_between (place.Body n) (inr h) = absurd cc
-resumed_between place.Over (inl h) = absurd cc
-resumed_between place.Over (inr h) = absurd cc
-
-pub none_of : (e : Option SessionEnd) → is_some e ≡ false → e ≡ None
-none_of None h = refl
-none_of (Some x) h = absurd cc
-
-pub some_of : (e : Option SessionEnd) → is_some e ≡ true → (x : SessionEnd) × (e ≡ Some x)
-some_of None h = absurd cc
-some_of (Some x) h = (x, refl)
 
 -- the same step, with equal places and bytes
 pub steps_by : {C K : Type 0} (gives : C → ℕ → C → Type 0) (p p' : Place) (old old' new new' reader reader' output output' : Option (List ℕ)) (clock clock' : C) (k : Ghosts K) (keeper keeper' : K) (s : State) (e : Option SessionEnd)

@@ -18,8 +18,8 @@ use Rattle.wire.specs.declared.joining.Came.{Came}
 use Rattle.wire.proofs.NextMessages.{IsNextMessage}
 use Rattle.wire.specs.Whole.{BreaksOff, Brings}
 use Rattle.wire.proofs.Halves.{message_stands}
-use Rattle.office.specs.declared.connections.session.SessionEnd.{SessionEnd}
-use Rattle.office.specs.declared.connections.session.SessionEnd.TheVariants.{Ended, Truncated, Refused, Limit, ReadFault, WriteFault}
+use Rattle.seats.specs.declared.session.SessionEnd.{SessionEnd}
+use Rattle.seats.specs.declared.session.SessionEnd.TheVariants.{Ended, Truncated, Refused, Limit, ReadFault, WriteFault}
 use Rattle.office.specs.declared.connections.handling.Handled.TheVariants.{Answered, GaveUp, Broken}
 use Rattle.sigtext.specs.Counts.{Rose}
 use Rattle.office.specs.Connections.{HoldsUpTo, IsKnown, IsStream, Serves}

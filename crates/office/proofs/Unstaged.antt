@@ -9,8 +9,8 @@ use Rattle.keeper.specs.declared.keep.KeepFault.{KeepFault}
 use Rattle.keeper.specs.declared.keep.Keeper.{Ghosts}
 use Rattle.office.specs.Foreseeing.{AreStaged}
 use Rattle.office.specs.declared.requests.foreseeing.Body.{Body}
-use Rattle.office.specs.declared.connections.session.SessionEnd.{SessionEnd}
-use Rattle.office.specs.declared.connections.session.SessionEnd.TheVariants.{ReadFault}
+use Rattle.seats.specs.declared.session.SessionEnd.{SessionEnd}
+use Rattle.seats.specs.declared.session.SessionEnd.TheVariants.{ReadFault}
 use Rattle.office.specs.Connections.{MayGiveUp}
 use Rattle.office.specs.Premise.{EndsUnstaged, HoldsUnless, IsFault}
 use Rattle.office.proofs.Holding.{holds_less, holds_then}

@@ -21,8 +21,8 @@ use Rattle.office.specs.Seats.{IsStreamOf}
 use Rattle.office.specs.Sessions.{EndsAtOnce, GaveUpAt, HasBegunMessage, Session, most_messages}
 use Rattle.office.specs.Sessions as session
 use Rattle.office.specs.Stepping.{Goes}
-use Rattle.office.specs.declared.connections.session.SessionEnd.{SessionEnd}
-use Rattle.office.specs.declared.connections.session.SessionEnd.TheVariants.{ReadFault}
+use Rattle.seats.specs.declared.session.SessionEnd.{SessionEnd}
+use Rattle.seats.specs.declared.session.SessionEnd.TheVariants.{ReadFault}
 use Rattle.office.proofs.Counting.{Counts, counts_more, counts_still, counts_turn, over_if, took_of}
 use Rattle.office.proofs.Endurance.{still, survives_more, survives_same, survives_through, then_survives, then_through}
 use Rattle.office.proofs.Repeats.{last_acts, none_acted}

@@ -6,8 +6,9 @@ use Rattle.sigtext.specs.Counts.{Rose}
 use Rattle.boxes.specs.State.{State}
 use Rattle.keeper.specs.declared.keep.Keeper.{Ghosts}
 use Rattle.wire.specs.declared.counted.Counted.{Counted}
-use Rattle.office.specs.declared.connections.session.SessionEnd.{SessionEnd}
-use Rattle.office.specs.declared.connections.session.SessionEnd.TheVariants.{Ended, Truncated, Refused, Limit, ReadFault, WriteFault}
+use Rattle.seats.specs.Ends.{is_fault}
+use Rattle.seats.specs.declared.session.SessionEnd.{SessionEnd}
+use Rattle.seats.specs.declared.session.SessionEnd.TheVariants.{Ended, Truncated, Refused, Limit, ReadFault, WriteFault}
 use Rattle.office.specs.Crashes.{LastsThrough, Survives}
 use Rattle.office.specs.Premise.{HoldsUp}
 use Rattle.office.specs.Repeats.{ActsOnce}
@@ -93,15 +94,6 @@ StaysOpen k cs old new after = NoneGaveUp cs → k.is_open old → k.is_open new
 abbrev pub LastsOverAll : {K : Type 0} → Ghosts K → List Connection → K → K → State → State → Type 0
 LastsOverAll k cs keeper keeper' s after =
     AllByRecursion (λ c. (c.gave_up ≡ false) ⊎ (c.end ≡ ReadFault)) cs → LastsThrough k keeper keeper' s after
-
--- the connection ended by a failed read or write
-abbrev pub is_fault : SessionEnd → Bool
-is_fault ReadFault = true
-is_fault WriteFault = true
-is_fault Ended = false
-is_fault Truncated = false
-is_fault (Refused number) = false
-is_fault Limit = false
 
 -- The whole run: the connections in order, their moments, the state after, how the keeper held up, what a
 -- crash leaves, and how many connections ended by a fault. It is also a run without the messages answered

@@ -2,7 +2,6 @@ pub mod Admitted
 pub mod Alike
 pub mod Announcing
 pub mod Answering
-pub mod Begins
 pub mod Clocks
 pub mod Connections
 pub mod Crashes
@@ -26,4 +25,3 @@ pub mod Sessions
 pub mod Stepping
 pub mod WithoutTryAgain
 pub mod WithoutTurns
-pub mod Slots

@@ -5,9 +5,10 @@ use Rattle.std.specs.List.{count_by}
 use Rattle.std.specs.Io.KnownBytes.{Appends}
 use Rattle.boxes.specs.State.{State}
 use Rattle.keeper.specs.declared.keep.Keeper.{Ghosts}
-use Rattle.office.specs.declared.connections.session.SessionEnd.{SessionEnd}
-use Rattle.office.specs.declared.connections.session.SessionEnd.TheVariants.{ReadFault}
-use Rattle.office.specs.Connections.{IsStream, LastsOverAll, StaysOpen, is_fault}
+use Rattle.seats.specs.declared.session.SessionEnd.{SessionEnd}
+use Rattle.seats.specs.declared.session.SessionEnd.TheVariants.{ReadFault}
+use Rattle.seats.specs.Ends.{is_fault}
+use Rattle.office.specs.Connections.{IsStream, LastsOverAll, StaysOpen}
 use Rattle.office.specs.Crashes.{Survives}
 use Rattle.office.specs.Sessions.{Connection, GaveUpIn, Run, Session, most_messages}
 

@@ -13,8 +13,8 @@ use Rattle.wire.specs.Whole.{IsOpening}
 use Rattle.wire.specs.declared.counted.Counted.{Counted}
 use Rattle.wire.specs.declared.feed.Place.{Place}
 use Rattle.wire.specs.declared.feed.Place.TheVariants as place
-use Rattle.office.specs.declared.connections.session.SessionEnd.{SessionEnd}
-use Rattle.office.specs.declared.connections.session.SessionEnd.TheVariants.{Refused, WriteFault}
+use Rattle.seats.specs.declared.session.SessionEnd.{SessionEnd}
+use Rattle.seats.specs.declared.session.SessionEnd.TheVariants.{Refused, WriteFault}
 use Rattle.office.specs.declared.requests.foreseeing.Prospect.{Prospect}
 use Rattle.office.specs.Answering.{AnswersRequest, is_head}
 use Rattle.office.specs.Connections.{Serves, TellsFaults}

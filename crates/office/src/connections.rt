@@ -3,8 +3,6 @@ pub mod crowding;
 mod handling;
 mod receiving;
 pub mod run;
-pub mod seat;
 pub mod session;
-pub mod slots;
 mod stepping;
 mod turning;

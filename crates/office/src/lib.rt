@@ -10,13 +10,6 @@ pub mod office;
 pub mod requests;
 
 pub use clocks::{Clock, FixedClock, ListedClock};
-pub use connections::crowding::{Crowd, Due};
-pub use connections::seat::Seat;
-pub use connections::session::SessionEnd;
-pub use connections::slots::{
-    fail_slot, first_free, free_slot, gather_slot, make_room_in_slot, open_slot, send_slot,
-    settle_slot,
-};
 pub use laws::{law_of_acts, law_of_alike, law_of_replies, law_of_turns};
 pub use machine_clock::MachineClock;
 pub use office::Office;

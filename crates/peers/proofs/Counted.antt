@@ -5,15 +5,16 @@ use Rattle.std.specs.List.{count_by}
 use Rattle.std.specs.declared.io.Error.{Error}
 use Rattle.std.proofs.lemmas.List.{length-append}
 use Rattle.std.proofs.lemmas.List.Sums.{sum_by-append}
-use Rattle.office.specs.Crowds.{those_of}
-use Rattle.office.specs.declared.connections.seat.Seat.{Seat}
+use Rattle.seats.specs.Crowds.{those_of}
+use Rattle.seats.specs.declared.seat.Seat.{Seat}
 use Rattle.wire.specs.declared.gathered.Gathered.{Gathered}
 use Rattle.wire.specs.declared.outbox.Outbox.{Outbox}
 use Rattle.peers.specs.Counts.{Counts, is_closing, is_opening}
-use Rattle.sockets.specs.Accepting.{Accepts, Admits}
+use Rattle.sockets.specs.Accepting.{Admits}
+use Rattle.service.specs.Serving.{Accepts}
 use Rattle.sockets.specs.Accepting as accepting
 use Rattle.sockets.specs.Listening.{Event, accepted, closed, missed, opened, unready}
-use Rattle.sockets.specs.declared.serving.Outcome.{Outcome}
+use Rattle.service.specs.declared.serving.Outcome.{Outcome}
 
 -- a count of both is the sum of the counts
 pub count_both : {X : Type 0} (p : X → Bool) (xs ys : List X) → count_by p (xs ++ ys) ≡ count_by p xs + count_by p ys

@@ -5,8 +5,10 @@ ghost use Rattle.sockets.specs.Listening.{Event, closed};
 
 use keeper::Keeper;
 use mio::Poll;
-use office::{Clock, Office, Seat};
-use sockets::{Limits, Listener, Served, TcpEnd, Unready, serve};
+use office::{Clock, Office};
+use seats::Seat;
+use service::{Served, serve};
+use sockets::{Limits, Listener, TcpEnd, Unready};
 use std::alloc::Global;
 use std::net::TcpListener;
 use std::os::fd::{AsRawFd, RawFd};

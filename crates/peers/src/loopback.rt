@@ -1,9 +1,11 @@
 //! Peers over loopback. They send everything before they are served.
 use crate::counting::{Counting, serve_counted};
 use mio::Poll;
-use office::{FixedClock, Seat};
+use office::FixedClock;
+use seats::Seat;
+use service::{Outcome, serve};
 use sigv4::Moment;
-use sockets::{End, Limits, Listener, Outcome, TcpEnd, serve};
+use sockets::{End, Limits, Listener, TcpEnd};
 use std::io::{ErrorKind, Read, Write};
 use std::net::{Shutdown, TcpListener, TcpStream};
 use std::test::Fail;

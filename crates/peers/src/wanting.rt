@@ -1,8 +1,10 @@
 //! A listener while the system has no descriptor left.
 use mio::Poll;
-use office::{FixedClock, Seat};
+use office::FixedClock;
+use seats::Seat;
+use service::serve;
 use sigv4::Moment;
-use sockets::{Limits, Listener, TcpEnd, Unready, serve};
+use sockets::{Limits, Listener, TcpEnd, Unready};
 use std::alloc::Global;
 use std::io;
 use std::io::Write;

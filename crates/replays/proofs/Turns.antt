@@ -6,8 +6,9 @@ use Rattle.std.proofs.lemmas.List.{append-nil, length-append}
 use Rattle.std.specs.Io.KnownBytes.{Appends}
 use Rattle.boxes.specs.State.{State}
 use Rattle.keeper.specs.declared.keep.Keeper.{Ghosts}
-use Rattle.office.specs.declared.connections.session.SessionEnd.{SessionEnd}
-use Rattle.office.specs.Connections.{TellsMoments, Serves, is_fault}
+use Rattle.seats.specs.declared.session.SessionEnd.{SessionEnd}
+use Rattle.seats.specs.Ends.{is_fault}
+use Rattle.office.specs.Connections.{TellsMoments, Serves}
 use Rattle.office.specs.Premise.{IsLeft}
 use Rattle.office.specs.Replays.{AreAll, InTurn, InTurnOver, TakesTurns, answers_in}
 use Rattle.office.specs.Sessions.{Connection, most_messages}

@@ -9,7 +9,8 @@ ghost use Rattle.office.specs.Replays.{InTurn, InTurnOver, IsReplay, Replays, Ta
 
 use boxes::OfficeRow;
 use keeper::Keeper;
-use office::{FixedClock, Office, SessionEnd};
+use office::{FixedClock, Office};
+use seats::SessionEnd;
 use shelf::Shelf;
 use sigv4::{Allowance, Moment};
 use std::alloc::{AllocError, Global};

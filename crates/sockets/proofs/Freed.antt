@@ -2,13 +2,13 @@
 use Rattle.std.proofs.Common.{⊎_elim, ◌≡◌, ◌≤◌, ◌↔◌, Bool, true, false, ◌<◌, ◌+◌, ◌++◌, ◌⊎◌, ◌∙◌, ap, inl, inr, length, slice_set, subst, sym, Some, ℕ, suc, zero, List, [], ◌∷◌, Option, None, refl, arith}
 use Rattle.std.specs.Prelude.{IfSome}
 use Rattle.std.proofs.lemmas.Bool.{cases_lt}
-use Rattle.office.specs.Crowds.{SentAt, slot_at}
-use Rattle.office.specs.Seats.{Sends}
-use Rattle.office.specs.Slots.{SendsOn}
+use Rattle.seats.specs.Crowds.{SentAt, slot_at}
+use Rattle.seats.specs.Seats.{Sends}
+use Rattle.seats.specs.Slots.{SendsOn}
 use Rattle.wire.specs.Feeds.{ahead_of}
 use Rattle.wire.specs.Gathering.{HasFailed, ahead_in}
 use Rattle.wire.specs.Outgoing.{waits_out}
-use Rattle.office.specs.declared.connections.seat.Seat.{Seat}
+use Rattle.seats.specs.declared.seat.Seat.{Seat}
 use Rattle.wire.specs.declared.gathered.Gathered.{Gathered}
 use Rattle.wire.specs.declared.outbox.Outbox.{Outbox}
 use Rattle.wire.specs.declared.outbox.Sending.{Sending}
@@ -25,13 +25,6 @@ free_more [] all zero = refl
 free_more [] all (suc p) = refl
 free_more (x ∷ slots) all zero = all zero
 free_more (x ∷ slots) all (suc p) = free_more slots (λ q. all (suc q)) p
-
--- a property that holds below n and at n holds below n + 1
-pub up_to : (P : ℕ → Type 0) (n : ℕ) → ((p : ℕ) → p < n → P p) → P n → (p : ℕ) → p < n + 1 → P p
-up_to P zero all last zero lt = last
-up_to P zero all last (suc p) lt = absurd (omega (arith, lt))
-up_to P (suc n) all last zero lt = all zero (omega arith)
-up_to P (suc n) all last (suc p) lt = up_to (λ q. P (suc q)) n (λ q l. all (suc q) (omega (arith, l))) last p (omega (arith, lt))
 
 module _ {X : Type 0} where
   -- the slot holds what was put there

@@ -1,5 +1,4 @@
 pub mod Freed
+pub mod Gave
 pub mod Moved
-pub mod Returned
 pub mod Told
-mod Gave

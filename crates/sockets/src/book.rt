@@ -4,9 +4,9 @@ use crate::deeds::Deed;
 use crate::door::Door;
 use crate::held::{Held, seat_at};
 use crate::peer::{Peer, Phase};
+use crate::preparing::Limits;
 use crate::rooms::Rooms;
 use crate::rounds::Rounds;
-use crate::serving::Limits;
 use crate::socket::Listener;
 use crate::stages::Stage;
 use mio::event::Event;
@@ -28,7 +28,7 @@ pub(crate) const MOST_READ: usize = 65_536;
 
 /// What is stored besides the slots.
 #[derive(Drop)]
-pub(crate) struct Book<'a, R, L: Listener> {
+pub struct Book<'a, R, L: Listener> {
     pub(crate) rt: &'a R,
     pub(crate) alloc: Global,
     pub(crate) patience: Option<Duration>,

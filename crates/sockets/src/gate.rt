@@ -1,13 +1,13 @@
 //! The gate: which connections are accepted, which come into a slot, and which leave one.
 ghost use Rattle.std.specs.Prelude.{◌≡◌, ◌<◌, ◌≤◌, ◌⊎◌, ◌↔◌, ◌∷◌, ◌+◌, ◌-◌, ℕ, [], is_some, length, slice_set, false, true, IfSome, None, Some};
-ghost use Rattle.office.specs.Crowds.{Changes, slot_at};
-ghost use Rattle.office.specs.Seats.{IsNew};
+ghost use Rattle.seats.specs.Crowds.{Changes, slot_at};
+ghost use Rattle.seats.specs.Seats.{IsNew};
 ghost use Rattle.sockets.specs.Accepting.{MayGo};
 ghost use Rattle.sockets.specs.Listening.{IsWant};
 
 use crate::held::{Held, lacking, new_seat};
 use crate::socket::{Listener, Unready};
-use office::{first_free, free_slot, open_slot};
+use seats::{first_free, free_slot, open_slot};
 use std::alloc::Global;
 use std::io;
 use std::io::{ErrorKind, Read, Write};
@@ -48,19 +48,19 @@ pub(crate) struct Coming {
 
 /// The listener, an accepted connection that has no slot yet, and how many came and went.
 #[derive(Drop)]
-pub(crate) struct Gate<L, S> {
+pub struct Gate<L, S> {
     listener: L,
     guest: Option<S>,
     // How many are still to be accepted, including those that fail.
     to_come: u64,
     // How many may be open at a time.
     most: usize,
-    // How many came into a slot.
-    pub(crate) came: u64,
-    // How many left a slot.
-    pub(crate) gone: u64,
-    // How many of those lack answers.
-    pub(crate) unsent: u64,
+    /// How many came into a slot.
+    pub came: u64,
+    /// How many left a slot.
+    pub gone: u64,
+    /// How many of those lack answers.
+    pub unsent: u64,
     ghost lacking: { unsent ≤ gone },
 }
 
@@ -69,7 +69,7 @@ impl<L: Listener> Gate<L, L::Stream> {
     ghost use Rattle.sockets.specs.Telling.{Calls, Enters, Stays};
 
     /// A gate for this many connections, of which at most `most` are open at a time.
-    pub(crate) fn new(listener: L, connections: u64, most: usize) -> Gate<L, L::Stream>
+    pub fn new(listener: L, connections: u64, most: usize) -> Gate<L, L::Stream>
         ensures listener { result.listener ≡ listener }
         ensures guest { result.guest ≡ None }
         ensures to_come { result.to_come ≡ connections }
@@ -90,7 +90,7 @@ impl<L: Listener> Gate<L, L::Stream> {
     }
 
     /// Returns the listener, how many connections are still to be accepted, and whether one waits.
-    pub(crate) fn close(self) -> (L, u64, bool)
+    pub fn close(self) -> (L, u64, bool)
         ensures listener { result.0 ≡ self.listener }
         ensures to_come { result.1 ≡ self.to_come }
         ensures waits { result.2 ≡ is_some self.guest }

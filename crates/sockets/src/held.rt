@@ -1,18 +1,18 @@
 //! The connections in their slots, as the loop sees them.
 ghost use Rattle.std.specs.Prelude.{◌≡◌, ◌≤◌, ◌↔◌, ◌∷◌, [], length, IfSome, IsSomeAnd, IsTrue};
 ghost use Rattle.std.specs.List.{count_by};
-ghost use Rattle.office.specs.Crowds.{slot_at};
-ghost use Rattle.office.specs.Seats.{IsNew};
+ghost use Rattle.seats.specs.Crowds.{slot_at};
+ghost use Rattle.seats.specs.Seats.{IsNew};
 ghost use Rattle.wire.specs.Gathering.{ahead_in};
 ghost use Rattle.sockets.specs.Accepting.{IsIdle, IsThrough, IsUntouched, is_write_fault, lacks_answers};
 
-use office::{Seat, SessionEnd};
+use seats::{Seat, SessionEnd};
 use std::alloc::Global;
 use std::io::{Read, Write};
 use wire::{Gathered, Outbox};
 
 /// A connection in its slot.
-pub(crate) type Held<S> = Seat<Gathered<S>, Outbox<S>>;
+pub type Held<S> = Seat<Gathered<S>, Outbox<S>>;
 
 /// The connection in the slot, if there is one.
 pub(crate) fn seat_at<S>(slots: &[Option<Held<S>>], index: usize) -> Option<&Held<S>>

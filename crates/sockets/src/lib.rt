@@ -1,5 +1,5 @@
-//! The sockets of a listener's peers around an office. One loop serves all of them, and no peer holds up
-//! another.
+//! The sockets of a listener's peers, as a crowd that is served in turns. One loop serves all of them, and no
+//! peer holds up another.
 #![tactic(auto)]
 
 mod accepting;
@@ -11,15 +11,20 @@ mod gate;
 mod held;
 mod leaving;
 mod peer;
+mod preparing;
 mod reading;
 mod rooms;
 mod rounds;
 mod sending;
-mod serving;
 mod socket;
 mod sockets;
 mod stages;
 mod start;
 
-pub use serving::{Limits, Outcome, Served, serve};
+pub use book::Book;
+pub use gate::Gate;
+pub use held::Held;
+pub use preparing::{Limits, prepare};
 pub use socket::{End, Listener, TcpEnd, Unready, send_at_once};
+pub use sockets::Sockets;
+pub use start::Start;

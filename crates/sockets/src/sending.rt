@@ -6,7 +6,7 @@ use crate::peer::Phase;
 use crate::socket::{End, Listener};
 use mio::unix::SourceFd;
 use mio::{Interest, Token};
-use office::SessionEnd;
+use seats::SessionEnd;
 use std::io::ErrorKind;
 use std::{io, time};
 use wire::{Room, Sending};

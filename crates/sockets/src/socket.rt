@@ -1,9 +1,9 @@
 //! The interface to a listener and to the two ends of each of its connections.
 ghost use Rattle.std.specs.Prelude.{◌≡◌, ◌++◌, ◌∷◌, [], IfErr, IfOk, IfSome, List, is_some, map, true};
-ghost use Rattle.office.specs.Crowds.{those_of};
+ghost use Rattle.seats.specs.Crowds.{those_of};
 ghost use Rattle.sockets.specs.Listening.{Event, accepted, closed, missed, opened, unready};
 
-use office::Seat;
+use seats::Seat;
 use std::alloc::{AllocError, Global};
 use std::io;
 use std::io::{ErrorKind, Read, Write};

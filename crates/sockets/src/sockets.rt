@@ -1,6 +1,6 @@
 //! The sockets of a listener's peers, as the crowd around an office.
 ghost use Rattle.std.specs.Prelude.{◌≡◌, ◌<◌, true};
-ghost use Rattle.office.specs.Crowds.{IsOpenAt};
+ghost use Rattle.seats.specs.Crowds.{IsOpenAt};
 ghost use Rattle.sockets.specs.Moving.{Moves};
 
 use crate::book::Book;
@@ -9,7 +9,7 @@ use crate::held::{Held, seat_at};
 use crate::socket::Listener;
 use crate::stages::{Step, Task};
 use crate::start::Start;
-use office::{Crowd, Due};
+use seats::{Crowd, Due};
 use std::io::{Read, Write};
 use std::marker::PhantomData;
 use std::time;
@@ -17,7 +17,7 @@ use wire::{Gathered, Outbox, Room};
 
 /// The sockets of a listener's peers.
 #[derive(Drop)]
-pub(crate) struct Sockets<'a, R, L: Listener, S> {
+pub struct Sockets<'a, R, L: Listener, S> {
     book: Book<'a, R, L>,
     gate: Gate<L, L::Stream>,
     // How many more turns it may give.
@@ -39,7 +39,7 @@ enum Next {
 
 impl<'a, R: time::Clock, L: Listener, S: Start<L::Stream, L::End>> Sockets<'a, R, L, S> {
     /// The sockets behind a gate.
-    pub(crate) fn new(book: Book<'a, R, L>, gate: Gate<L, L::Stream>) -> Sockets<'a, R, L, S>
+    pub fn new(book: Book<'a, R, L>, gate: Gate<L, L::Stream>) -> Sockets<'a, R, L, S>
         ensures gate { result.gate ≡ gate }
         ensures turns { result.turns ≡ 18446744073709551615 }
     {
@@ -52,7 +52,7 @@ impl<'a, R: time::Clock, L: Listener, S: Start<L::Stream, L::End>> Sockets<'a, R
     }
 
     /// The gate.
-    pub(crate) fn into_gate(self) -> Gate<L, L::Stream>
+    pub fn into_gate(self) -> Gate<L, L::Stream>
         ensures { result ≡ self.entry.gate }
     {
         self.gate

@@ -7,7 +7,7 @@ use crate::held::{Held, seat_at};
 use crate::peer::Phase;
 use crate::socket::Listener;
 use mio::event::Event;
-use office::Due;
+use seats::Due;
 use std::io::ErrorKind;
 use std::time;
 use std::time::{Duration, Instant};

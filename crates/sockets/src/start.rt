@@ -4,7 +4,7 @@ use std::marker::Brand;
 
 /// The state when a run began; it only exists in proofs. S: a connection as it was accepted; E: one of its
 /// ends.
-pub(crate) trait Start<S, E> {
+pub trait Start<S, E> {
     ghost use Rattle.std.specs.Prelude.{ℕ, List};
     ghost use Rattle.sockets.specs.Listening.{Event};
 

@@ -2,7 +2,8 @@
 //! call in turn. The receipt comes from Python's `hashlib`.
 use boxes::Mode;
 use links::LinkKey;
-use office::{Office, SessionEnd};
+use office::Office;
+use seats::SessionEnd;
 use shelf::Shelf;
 use std::alloc::Global;
 use std::test::Fail;

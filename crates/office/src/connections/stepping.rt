@@ -5,13 +5,13 @@ ghost use Rattle.office.specs.Stepping.{IsClosed};
 
 use super::handling::{Handled, send_answer};
 use super::receiving::Received;
-use super::session::SessionEnd;
 use crate::clocks::Clock;
 use crate::office::Office;
 use crate::requests::announced::Announced;
 use crate::requests::answering::asks_head;
 use crate::requests::foreseeing::{Body, Prospect, is_given_up, is_upload};
 use keeper::Keeper;
+use seats::SessionEnd;
 use sigtext::{Field, Refusal};
 use std::io::{Read, Write};
 use wire::{

@@ -1,10 +1,9 @@
 //! Connections that are served in turns, one message at a time.
 
-use super::seat::Seat;
-use super::session::SessionEnd;
 use crate::clocks::Clock;
 use crate::office::Office;
 use keeper::Keeper;
+use seats::{Seat, SessionEnd};
 use std::alloc::Global;
 use std::io::{Read, Write};
 use std::mem;

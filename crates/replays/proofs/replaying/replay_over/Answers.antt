@@ -1,5 +1,5 @@
 use Rattle.std.proofs.Common.{◌≡◌, ◌+◌, ◌∙◌, cond, length, subst, sym, refl, ap, arith}
-use Rattle.office.specs.Connections.{is_fault}
+use Rattle.seats.specs.Ends.{is_fault}
 use Rattle.office.specs.Replays.{InTurnOver}
 use Rattle.replays.proofs.Turns.{name_at, none_over, over_more}
 use Rattle.replays.proofs.replaying.replay_over.Goals as goal

@@ -1,5 +1,5 @@
 use Rattle.std.proofs.Common.{◌≡◌, ◌+◌, ◌<◌, ◌∙◌, cond, inl, length, refl, sym, ap, arith}
-use Rattle.office.specs.Connections.{is_fault}
+use Rattle.seats.specs.Ends.{is_fault}
 use Rattle.office.proofs.KeeperCalls.{unstaged_then}
 use Rattle.office.proofs.RunSoFar.{starts, goes_on, others_stay, finishes}
 use Rattle.office.proofs.office.Office.run.Goals as goal

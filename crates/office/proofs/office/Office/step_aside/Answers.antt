@@ -1,7 +1,8 @@
 use Rattle.std.proofs.Common.{◌≡◌, ◌∙◌, ap, inr, sym}
 use Rattle.std.specs.Io.KnownBytes.{prepend_known}
 use Rattle.wire.specs.Feeds.{ahead_of, left, place_of, reader_of, stood_at}
-use Rattle.office.proofs.SeatTurns.{resumed_between, steps_by}
+use Rattle.seats.proofs.Begins.{resumed_between}
+use Rattle.office.proofs.SeatTurns.{steps_by}
 use Rattle.office.proofs.office.Office.step_aside.Goals as goal
 
 pub returns-clause-steps : goal.returns-clause-steps

@@ -1,7 +1,9 @@
 use Rattle.std.proofs.Common.{◌∙◌, ◌-◌, None, Some, suc, refl, sym, arith}
-use Rattle.office.specs.declared.connections.session.SessionEnd.TheVariants.{Limit}
-use Rattle.office.specs.Seats.{had_ended, went_on, ended, left_of}
-use Rattle.office.proofs.SeatTurns.{none_of, some_of, steps_of}
+use Rattle.seats.specs.declared.session.SessionEnd.TheVariants.{Limit}
+use Rattle.seats.specs.Seats.{left_of}
+use Rattle.office.specs.Seats.{had_ended, went_on, ended}
+use Rattle.seats.proofs.Ends.{none_of, some_of}
+use Rattle.office.proofs.SeatTurns.{steps_of}
 use Rattle.wire.specs.declared.feed.Place.TheVariants as place
 use Rattle.office.proofs.SessionSteps.{none_ends, none_gives_up, not_fresh, serves_none}
 use Rattle.office.proofs.office.Office.take_turn.Goals as goal

@@ -1,0 +1,5 @@
+pub mod Begins
+pub mod Changing
+pub mod Ends
+pub mod Standings
+pub mod Ties

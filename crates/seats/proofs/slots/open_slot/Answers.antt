@@ -1,0 +1,12 @@
+use Rattle.std.proofs.Common.{refl}
+use Rattle.std.specs.Prelude.{None}
+use Rattle.seats.proofs.Changing.{by_comes}
+use Rattle.seats.proofs.slots.open_slot.Goals as goal
+
+pub returns-in-Some-clause-opened : goal.returns-in-Some-clause-opened
+returns-in-Some-clause-opened g c = (
+  c.in-Some.ensures.some.0,
+  c.in-Some.ensures.some.1,
+  refl,
+  by_comes g.R.Read.remaining g.W.Write.contents c.args.slots.now c.in-Some.index None c.args.seat c.in-Some.ensures.some.0 c.in-Some.ensures.some.1 (record { none = c.requires.none; open_still = c.requires.open_still }),
+)

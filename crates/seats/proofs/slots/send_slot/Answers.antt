@@ -1,0 +1,13 @@
+use Rattle.seats.proofs.Changing.{by_kept, by_sent, sent_there}
+use Rattle.seats.proofs.slots.send_slot.Goals as goal
+
+pub returns-in-Some-clause-done : goal.returns-in-Some-clause-done
+returns-in-Some-clause-done g c =
+    sent_there _ _ _ c.args.slots.now c.args.index c.index-slots-index.result c.requires c.in-Some.seat c.send.new.self c.in-Some.is c.send.ensures.sends
+    (record { sent = c.send.ensures.sent; failed = c.send.ensures.failed; takes = c.send.ensures.takes })
+
+pub returns-in-Some-clause-changes : goal.returns-in-Some-clause-changes
+returns-in-Some-clause-changes g c = by_sent _ _ _ _ _ _ c.args.index c.requires (returns-in-Some-clause-done g c)
+
+pub returns-in-None-clause-changes : goal.returns-in-None-clause-changes
+returns-in-None-clause-changes g c = by_kept _ _ c.args.slots.now c.args.index c.index-slots-index.result

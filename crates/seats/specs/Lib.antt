@@ -1,0 +1,5 @@
+pub mod Begins
+pub mod Crowds
+pub mod Ends
+pub mod Seats
+pub mod Slots

@@ -1,0 +1,18 @@
+use Rattle.std.proofs.Common.{◌≡◌, ◌<◌, ◌∙◌, None, Some, length, sym, arith}
+use Rattle.std.proofs.lemmas.List.{get_or_default}
+use Rattle.seats.specs.Crowds.{slot_at}
+use Rattle.service.proofs.Below.{up_to}
+use Rattle.service.proofs.serving.are_free.Goals as goal
+
+pub returns-in-Some-clause-all : goal.returns-in-Some-clause-all
+returns-in-Some-clause-all g c all =
+    let within : c.slots.index < length c.args.slots.now = omega (arith, c.slots-test.true) in
+    let at = get_or_default c.args.slots.now c.slots.index None c.index-slots-index.result within in
+    let both : ◌≡◌ None (Some c.in-Some.field-0) = sym (all c.slots.index) ∙ (at ∙ (sym c.index-slots-index.is ∙ c.in-Some.is)) in
+    absurd cc
+
+pub slots-preserved : goal.slots-preserved
+slots-preserved g c =
+    let within : c.slots.index < length c.args.slots.now = omega (arith, c.slots-test.true) in
+    let at = get_or_default c.args.slots.now c.slots.index None c.index-slots-index.result within in
+    up_to (λ p. slot_at c.args.slots.now p ≡ None) c.slots.index c.slots.invariant (at ∙ (sym c.index-slots-index.is ∙ c.in-None.is))

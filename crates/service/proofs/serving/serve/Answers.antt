@@ -1,0 +1,9 @@
+use Rattle.std.proofs.Common.{◌∙◌, drop, length, sym}
+use Rattle.service.proofs.Returned.{serves_so, take_first}
+use Rattle.service.proofs.serving.serve.Goals as goal
+
+pub returns-clause-serves : goal.returns-clause-serves
+returns-clause-serves g c =
+    let slots = c.serve_through-listener.new.slots in
+    let first = take_first slots (drop (length slots) c.in-Ok.prepared.1.items) _ (c.serve_through-listener.auto.slots ∙ c.as_mut_slice.ensures.len) in
+    serves_so _ _ slots _ c.at_least_one-open.ensures (sym first) c.serve_through-listener.ensures.serves

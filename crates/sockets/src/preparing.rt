@@ -1,0 +1,54 @@
+//! What a run of the loop begins with.
+ghost use Rattle.std.specs.Prelude.{◌≡◌, ℕ, length, IfOk, None};
+ghost use Rattle.seats.specs.Crowds.{slot_at};
+
+use crate::book::Book;
+use crate::held::Held;
+use crate::socket::Listener;
+use mio::Poll;
+use std::alloc::{AllocError, Global};
+use std::time::Duration;
+use std::{io, time};
+
+/// The limits on connections.
+#[derive(Clone, Copy, Debug, PartialEq, Eq)]
+pub struct Limits {
+    /// The most connections that are accepted in all, including those that fail.
+    pub connections: u64,
+    /// How long a peer may keep a connection waiting. Without it there is no timeout.
+    pub patience: Option<Duration>,
+    /// How many connections may be open at a time, at least 1. Each takes a descriptor.
+    pub open: usize,
+}
+
+/// The state of the loop, and free slots.
+///
+/// # Errors
+///
+/// Memory was refused, or the poll does not take the listener, or the system can't tell the time.
+pub fn prepare<'a, L: Listener, R: time::Clock>(
+    rt: &'a R,
+    poll: Poll,
+    alloc: Global,
+    listener: &L,
+    limits: Limits,
+) -> io::Result<(Book<'a, R, L>, Vec<Option<Held<L::End>>>)>
+    ensures free { IfOk result (λ prepared. (p : ℕ) → slot_at prepared.1.items p ≡ None) }
+    ensures room { IfOk result (λ prepared. length prepared.1.items ≡ limits.«open») }
+{
+    let book = Book::new(rt, poll, alloc, listener, limits)?;
+    let slots = free_slots(alloc, limits.open)?;
+    Ok((book, slots))
+}
+
+// This many free slots.
+fn free_slots<S: Drop>(alloc: Global, n: usize) -> Result<Vec<Option<Held<S>>>, AllocError>
+    ensures free { IfOk result (λ slots. (p : ℕ) → slot_at slots.items p ≡ None) }
+    ensures room { IfOk result (λ slots. length slots.items ≡ n) }
+{
+    let mut slots = Vec::with_capacity(alloc, n)?;
+    'slots: for _index in 0..n {
+        slots.push(None)?;
+    }
+    Ok(slots)
+}
