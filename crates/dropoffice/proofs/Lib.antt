@@ -1,5 +1,4 @@
 pub mod Crashing
 pub mod Ended
 pub mod Ends
-pub mod Less
 mod Fresh

@@ -1,3 +1,1 @@
-pub mod Holding
-pub mod Leaving
-pub mod Performing
+pub mod Working

@@ -9,11 +9,12 @@ ghost use Rattle.boxes.specs.State.{State};
 ghost use Rattle.sqltables.specs.Kept.{KeepsState, LeavesStates, MayLeave};
 ghost use Rattle.sqltables.specs.Schema.{s0};
 ghost use Rattle.commands.specs.Wording.{IsNumber};
-ghost use Rattle.dropoffice.specs.Holding.{LeavesHeld, SparesShown};
-ghost use Rattle.dropoffice.specs.Leaving.{IsCleanLeft, IsClosed, IsSpared};
-ghost use Rattle.dropoffice.specs.Performing.{HasSettings, IsFirstRow, IsGivenSecret, IsSecretOf, Made, MayBeMade};
+ghost use Rattle.taskwork.specs.Holding.{LeavesHeld};
+ghost use Rattle.dropoffice.specs.Working.{SparesShown};
+ghost use Rattle.taskwork.specs.Leaving.{IsCleanLeft, IsClosed, IsSpared};
+ghost use Rattle.taskwork.specs.Performing.{HasSettings, IsFirstRow, IsGivenSecret, IsSecretOf, Made, MayBeMade};
 
-use crate::opening::{Left, Purpose, Worked, connect, end_work, ended_with, unfit};
+use crate::opening::{connect, end_work, unfit};
 use boxes::OfficeRow;
 use commands::{Argument, Fault, check_secret, read_secret_file};
 use sigv4::{Allowance, is_key_id};
@@ -25,6 +26,7 @@ use std::fs::{Files, OpenFile, OpenOptions, Permissions};
 use std::io::ErrorKind;
 use std::os::unix::fs::{OpenOptionsExt, PermissionsExt};
 use tasks::{Init, Secret};
+use taskwork::{Left, Purpose, Worked, ended_with};
 
 /// Readable and writable by the owner only.
 const OWNERS: u32 = 0o600;

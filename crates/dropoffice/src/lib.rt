@@ -5,14 +5,12 @@ mod init;
 mod migrating;
 mod opening;
 mod program;
-mod works;
 
 pub use commands::{Ending, Fault, Machine, Outside};
 pub use office::{
     Answer, Clock, Counted, DeskFault, FixedClock, ListedClock, MachineClock, Message, Office,
     law_of_acts, law_of_alike, law_of_replies,
 };
-pub use opening::Left;
 pub use program::{Performed, perform};
 pub use replays::{Replayed, replay_bytes, replay_in_memory, replay_over};
 pub use seats::SessionEnd;
@@ -22,3 +20,4 @@ pub use sqlite::{Start, Unknown};
 pub use tasks::{
     Desk, Export, Init, Link, Links, Listing, OfficeFile, Replay, Secret, Serve, Task,
 };
+pub use taskwork::Left;

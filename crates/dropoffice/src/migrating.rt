@@ -4,20 +4,19 @@ ghost use Rattle.sqlite.specs.State.{HasCleanDisk};
 ghost use Rattle.sqlite.specs.Held.{state};
 ghost use Rattle.sqlite.specs.WalFiles.{image_at};
 ghost use Rattle.sqlkeeper.specs.Versions.{IsOfficeFile};
-ghost use Rattle.dropoffice.specs.Holding.{HoldsOurs, MigratedOn, SparesShown, StillSees, WasOurs};
-ghost use Rattle.dropoffice.specs.Leaving.{IsCleanLeft, IsClosed};
-ghost use Rattle.dropoffice.specs.Performing.{MayMigrate};
+ghost use Rattle.taskwork.specs.Holding.{HoldsOurs};
+ghost use Rattle.dropoffice.specs.Working.{MigratedOn, SparesShown, StillSees, WasOurs};
+ghost use Rattle.taskwork.specs.Leaving.{IsCleanLeft, IsClosed};
+ghost use Rattle.taskwork.specs.Performing.{MayMigrate};
 
-use crate::opening::{
-    Left, Purpose, Worked, connect, end_work, ended_with, require_file, unclosed, unfit,
-};
-use crate::works::failed;
+use crate::opening::{connect, end_work, unfit};
 use commands::{Done, Fault, tell};
 use sqlite::{Alter, Connection, FileFrom, Start};
 use sqlkeeper::SqlKeeper;
 use std::alloc::Global;
 use std::io::Write;
 use tasks::OfficeFile;
+use taskwork::{Left, Purpose, Worked, ended_with, failed, require_file, unclosed};
 
 /// Migrates an office file to version 2, and writes the line `done` to `out`. A file of version 2 stays unchanged.
 pub(crate) fn do_migrate<S: Start + Drop, W: Write + Drop>(

@@ -7,9 +7,10 @@ ghost use Rattle.sqlite.specs.Start.{FindsIn};
 ghost use Rattle.sqlite.specs.WalFiles.{image_at};
 ghost use Rattle.boxes.specs.State.{State};
 ghost use Rattle.sqltables.specs.Kept.{KeepsState, LeavesStates};
-ghost use Rattle.dropoffice.specs.Leaving.{IsCleanLeft, IsClosed, IsLeftOf, IsLooked, IsSpared, LeavesOffice, MayCrashTo};
-ghost use Rattle.dropoffice.specs.Performing.{MayRun};
-ghost use Rattle.dropoffice.specs.Holding.{HoldsOurs, RanOn, SparesShown, StillSees, WasOurs};
+ghost use Rattle.taskwork.specs.Leaving.{IsCleanLeft, IsClosed, IsLeftOf, IsLooked, IsSpared, LeavesOffice, MayCrashTo};
+ghost use Rattle.taskwork.specs.Performing.{MayRun};
+ghost use Rattle.taskwork.specs.Holding.{HoldsOurs};
+ghost use Rattle.dropoffice.specs.Working.{RanOn, SparesShown, StillSees, WasOurs};
 
 use commands::{Fault, OfficeWork};
 use sqlite::{
@@ -18,9 +19,9 @@ use sqlite::{
 use sqlite_disk::Disk;
 use sqlite_std_file::OpenError;
 use sqlkeeper::{OpenFault, SqlKeeper};
-use std::fs;
 use std::hash::{BuildHasher, RandomState};
 use std::io::ErrorKind;
+use taskwork::{Left, Purpose, Worked, ended_with, require_file};
 
 /// The size of the page cache while an office is served, in pages of 4096 bytes: 64 MB. For any other page the engine reads the
 /// bytes again and computes their checksum.
@@ -76,25 +77,6 @@ fn options(rt: &HostRuntime, purpose: Purpose) -> Result<Options, Fault> {
     Ok(options)
 }
 
-/// Why a database could not be closed.
-pub(crate) fn unclosed(error: Error) -> Fault {
-    match error {
-        Error::SqliteFailure(ErrorCode::OutOfMemory) => Fault::OutOfMemory,
-        _ => Fault::Store,
-    }
-}
-
-/// Why an office file is opened.
-#[derive(Clone, Copy, Debug, PartialEq, Eq)]
-pub(crate) enum Purpose {
-    /// To read. The log beside the file stays as it is.
-    Look,
-    /// To change. The log is copied into the file at the end, even if the work failed.
-    Change,
-    /// To serve for long. Like `Change`, with a large page cache, which takes 60 milliseconds more to open, and a longer log.
-    Serve,
-}
-
 /// Connects to the database in an existing file. An empty file is a database without tables.
 ///
 /// # Errors
@@ -127,14 +109,6 @@ pub(crate) fn connect<S: Start + Drop>(
     match Connection::open_files(rt.alloc(), files, options) {
         Ok(conn) => Ok(conn),
         Err((error, left)) => Err((unopened(error, &left), Left::Refused(left))),
-    }
-}
-
-/// Fails if there is no such file, so that none is made.
-pub(crate) fn require_file<R: fs::Files>(rt: &R, file: &str) -> Result<(), Fault> {
-    match fs::metadata(rt, file) {
-        Ok(_) => Ok(()),
-        Err(_) => Err(Fault::CannotOpen),
     }
 }
 
@@ -180,24 +154,6 @@ fn work_on<S: Alter + Drop, W: OfficeWork + Drop>(
     }
 }
 
-/// What is left of the office file that a command names. Dropping it closes the file. `S` stands for what the file and its log
-/// held.
-#[derive(Drop)]
-pub enum Left<S, D: Disk> {
-    /// What stood for the files, which were not opened.
-    Unopened(S),
-    /// Nothing: the system did not open the files, or a file that was just made is gone again.
-    Lost,
-    /// The files, of which the engine refused to open a database.
-    Refused(Leftover<D>),
-    /// The connection, after work that only looked, or if the office could not be opened.
-    Looked(Connection<FileStore<D>>),
-    /// The files, closed.
-    Closed(Files<D>),
-    /// The store, which could not be closed.
-    Unclosed(FileStore<D>),
-}
-
 // Ends the work on an office file. The error means that it could not be closed.
 pub(crate) fn end_work<S, D: Disk + Drop>(
     conn: Connection<FileStore<D>>,
@@ -230,29 +186,6 @@ fn close_work<S, D: Disk + Drop>(conn: Connection<FileStore<D>>) -> (Result<(), 
     match conn.close_files() {
         Ok(files) => (Ok(()), Left::Closed(files)),
         Err((error, store)) => (Err(error), Left::Unclosed(store)),
-    }
-}
-
-/// What work on an office file gives, and what is left of the file.
-#[derive(Drop)]
-pub(crate) struct Worked<G: Drop, S: Drop, D: Disk> {
-    /// What the work gives.
-    pub(crate) gain: G,
-    /// Whether the file was closed, if it was to be.
-    pub(crate) closed: Result<(), Error>,
-    /// What is left.
-    pub(crate) left: Left<S, D>,
-}
-
-/// No file was to be closed.
-pub(crate) fn ended_with<G: Drop, S: Drop, D: Disk>(gain: G, left: Left<S, D>) -> Worked<G, S, D>
-    ensures gain { result.gain ≡ gain }
-    ensures left { result.left ≡ left }
-{
-    Worked {
-        gain,
-        closed: Ok(()),
-        left,
     }
 }
 

@@ -1,25 +1,23 @@
 //! The program: does what its arguments ask for, on the given streams.
-ghost use Rattle.std.specs.Prelude.{◌≡◌, ◌⊎◌, IsOk, Some, map};
+ghost use Rattle.std.specs.Prelude.{◌≡◌, ◌≢◌, ◌⊎◌, IsOk, map};
 ghost use Rattle.clap.specs.Words.{kind_of};
 ghost use Rattle.sqlite.specs.WalFiles.{image_at};
-ghost use Rattle.dropoffice.specs.Holding.{HoldsOurs};
-ghost use Rattle.dropoffice.specs.Leaving.{IsCleanLeft};
-ghost use Rattle.dropoffice.specs.Performing.{AsksForText, IsServe, NamesNone, NamesTask, Performs, Succeeds};
+ghost use Rattle.taskwork.specs.Holding.{HoldsOurs};
+ghost use Rattle.taskwork.specs.Leaving.{IsCleanLeft};
+ghost use Rattle.taskwork.specs.Performing.{AsksForText, IsServe, NamesNone, NamesTask, Performs, Succeeds};
 
 use crate::init::do_init;
 use crate::migrating::do_migrate;
-use crate::opening::{Left, Worked, unclosed};
-use crate::works::{
-    do_compare, do_desk, do_export, do_link, do_links, do_list, do_manifest, do_replay, do_serve,
-};
+use crate::opening::work_over;
 use clap::Error as WordsError;
 use clap::error::ErrorKind;
-use commands::{Done, Ending, Fault, Outside, Session};
+use commands::{Done, Ending, Fault, OfficeWork, Outside};
 use sockets::Listener;
-use sqlite::{Error, FileFrom, Start};
+use sqlite::{FileFrom, Start};
 use sqlite_disk::Disk;
 use std::io::{Read, Write};
-use tasks::Task;
+use tasks::{Init, OfficeFile, Task};
+use taskwork::{Left, OfficeFiles, Purpose, Worked, end_task};
 use wire::{Gathered, Outbox};
 
 /// The exit status of a task that was done, even if it refused requests.
@@ -30,6 +28,38 @@ const FAULT: u8 = 1;
 
 /// The exit status for arguments that name no task.
 const WORDS: u8 = 2;
+
+/// Office files that are databases of SQLite.
+struct SqlFiles;
+
+impl OfficeFiles for SqlFiles {
+    fn work_over<S: Start + Drop, W: OfficeWork + Drop>(
+        rt: &HostRuntime,
+        file: &str,
+        purpose: Purpose,
+        work: W,
+        start: S,
+    ) -> Worked<W::Gain, S, FileFrom<S>> {
+        work_over(rt, file, purpose, work, start)
+    }
+
+    fn do_init<S: Start + Drop>(
+        rt: &HostRuntime,
+        words: &Init<'_>,
+        start: S,
+    ) -> Worked<Result<(), Fault>, S, FileFrom<S>> {
+        do_init(rt, words, start)
+    }
+
+    fn do_migrate<S: Start + Drop, W: Write + Drop>(
+        rt: &HostRuntime,
+        words: &OfficeFile<'_>,
+        out: W,
+        start: S,
+    ) -> Worked<Done<W>, S, FileFrom<S>> {
+        do_migrate(rt, words, out, start)
+    }
+}
 
 /// What the program did, and what it leaves.
 #[derive(Drop)]
@@ -58,118 +88,6 @@ impl<W: Drop, N: Drop, L: Drop, E: Drop, C: Drop, S: Drop, D: Disk + Drop> Perfo
         ensures { result ≡ self.status }
     {
         self.status
-    }
-}
-
-// The same before its fault is told.
-#[derive(Drop)]
-struct Ended<W, N, L, E, C, S, D: Disk> {
-    result: Result<(), Fault>,
-    out: Option<W>,
-    ending: Ending<N, L, E, C>,
-    left: Left<S, D>,
-}
-
-// The end of a task that only has a result.
-fn plain<W, N, L, E, C, S: Drop, D: Disk>(
-    worked: Worked<Result<(), Fault>, S, D>,
-    out: W,
-    outside: N,
-) -> Ended<W, N, L, E, C, S, D>
-    ensures done { IsOk result.result → IsOk worked.gain × IsOk worked.closed }
-    ensures out { result.out ≡ Some out }
-    ensures ending { result.ending ≡ Ending.Idle outside }
-    ensures left { result.left ≡ worked.left }
-{
-    let Worked { gain, closed, left } = worked;
-    Ended {
-        result: unless_unclosed(gain, closed),
-        out: Some(out),
-        ending: Ending::Idle(outside),
-        left,
-    }
-}
-
-// The end of a task that has an output.
-fn spoken<W: Drop, N, L, E, C, S: Drop, D: Disk>(
-    worked: Worked<Done<W>, S, D>,
-    outside: N,
-) -> Ended<W, N, L, E, C, S, D>
-    ensures done { IsOk result.result → IsOk worked.gain.result × IsOk worked.closed }
-    ensures out { result.out ≡ worked.gain.out }
-    ensures ending { result.ending ≡ Ending.Idle outside }
-    ensures left { result.left ≡ worked.left }
-{
-    let Worked { gain, closed, left } = worked;
-    let Done { result, out } = gain;
-    Ended {
-        result: unless_unclosed(result, closed),
-        out,
-        ending: Ending::Idle(outside),
-        left,
-    }
-}
-
-// The end of a service.
-fn served<W, N: Drop, L: Drop, E: Drop, C: Drop, S: Drop, D: Disk>(
-    worked: Worked<Session<N, L, E, C>, S, D>,
-) -> Ended<W, N, L, E, C, S, D>
-    ensures done { IsOk result.result → IsOk worked.gain.result × IsOk worked.closed }
-    ensures ending { result.ending ≡ worked.gain.ending }
-    ensures left { result.left ≡ worked.left }
-{
-    let Worked { gain, closed, left } = worked;
-    let Session { result, ending } = gain;
-    Ended {
-        result: unless_unclosed(result, closed),
-        out: None,
-        ending,
-        left,
-    }
-}
-
-// The same result. It is a fault if the file could not be closed.
-fn unless_unclosed(done: Result<(), Fault>, closed: Result<(), Error>) -> Result<(), Fault>
-    ensures { IsOk result → IsOk done × IsOk closed }
-{
-    match (done, closed) {
-        (Ok(()), Ok(())) => Ok(()),
-        (Ok(()), Err(error)) => Err(unclosed(error)),
-        (Err(fault), _) => Err(fault),
-    }
-}
-
-// Does the task.
-fn end_task<S: Start + Drop, N: Outside + Drop, R: Read + Drop, W: Write + Drop, E: Write>(
-    rt: &HostRuntime,
-    task: &Task<'_>,
-    input: R,
-    out: W,
-    err: &mut E,
-    start: S,
-    outside: N,
-) -> Ended<W, N, N::Listener, <N::Listener as Listener>::End, N::Clock, S, FileFrom<S>>
-    ensures office { HoldsOurs (image_at S.Start) → IsCleanLeft result.left
-        → Performs N.listens N.begins N.Clock.now_gives N.Listener.told N.Listener.are_ends
-        ⟦<Gathered<<N::Listener as Listener>::End> as Read>⟧.remaining
-        ⟦<Outbox<<N::Listener as Listener>::End> as Write>⟧.contents W.contents (R.remaining input)
-        task.now (image_at S.Start) start result.left (IsOk result.result) out result.out
-        outside result.ending }
-    ensures done { IsOk result.result → Succeeds W.contents task.now result.left out result.out }
-    ensures heard { (result.ending ≡ Ending.Idle outside) ⊎ IsServe task.now }
-{
-    match task {
-        Task::Init(words) => plain(do_init(rt, words, start), out, outside),
-        Task::Desk(words) => spoken(do_desk(rt, words, input, out, start), outside),
-        Task::Link(words) => spoken(do_link(rt, words, out, start), outside),
-        Task::Links(words) => spoken(do_links(rt, words, input, out, start), outside),
-        Task::Manifest(words) => spoken(do_manifest(rt, words, out, start), outside),
-        Task::Compare(words) => spoken(do_compare(rt, words, input, out, start), outside),
-        Task::List(words) => spoken(do_list(rt, words, out, start), outside),
-        Task::Export(words) => plain(do_export(rt, words, start), out, outside),
-        Task::Replay(words) => spoken(do_replay(rt, words, out, start), outside),
-        Task::Serve(words) => served(do_serve(rt, words, out, &mut *err, start, outside)),
-        Task::Migrate(words) => spoken(do_migrate(rt, words, out, start), outside),
     }
 }
 
@@ -215,7 +133,9 @@ pub fn perform<
 {
     match Task::read(rt.alloc(), words) {
         Ok(task) => {
-            let ended = end_task(rt, &task, input, out, &mut err, start, outside);
+            let ended = end_task::<SqlFiles, S, N, R, W, E>(
+                rt, &task, input, out, &mut err, start, outside,
+            );
             Performed {
                 status: status_of(ended.result, &mut err),
                 out: ended.out,

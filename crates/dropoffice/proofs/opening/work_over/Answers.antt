@@ -2,7 +2,7 @@ use Rattle.std.proofs.Common.{inl, inr}
 use Rattle.sqlite.specs.Files.{file_state}
 use Rattle.sqlite.specs.WalFiles.{image_at}
 use Rattle.sqltables.specs.Kept.{KeepsState}
-use Rattle.dropoffice.specs.Holding.{HoldsState, ShowsHeld}
+use Rattle.taskwork.specs.Holding.{HoldsState, ShowsHeld}
 use Rattle.dropoffice.proofs.Ended.{held, shows_held, spared_more, was_ours}
 use Rattle.dropoffice.proofs.Ends.{ran_over}
 use Rattle.dropoffice.proofs.opening.work_over.Goals as goal

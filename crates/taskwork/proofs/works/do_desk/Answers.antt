@@ -1,0 +1,16 @@
+use Rattle.std.specs.Prelude.{IsOk, option_map}
+use Rattle.sqlite.specs.WalFiles.{image_at}
+use Rattle.commands.specs.Obeying.{TellsLine}
+use Rattle.commands.specs.Saying.{HandsBack}
+use Rattle.taskwork.specs.Performing.{Commands}
+use Rattle.taskwork.proofs.Less.{run_more}
+use Rattle.taskwork.proofs.works.do_desk.Goals as goal
+
+pub returns-clause-ran : goal.returns-clause-ran
+returns-clause-ran g c ours clean =
+    let gain = c.work_over.result.gain in
+    let command = option_map (λ line. line.items) c.in-Ok.command in
+    let idle = HandsBack (IsOk gain.result) c.args.out gain.out in
+    run_more (TellsLine g.W.Write.contents command (IsOk gain.result) c.args.out gain.out)
+    (Commands (g.R.Read.remaining c.args.input) c.args.words.now g.W.Write.contents (IsOk gain.result) c.args.out gain.out)
+    idle idle (λ s after asked it. record { command = command; is_command = c.in-Ok.ensures; tells = it }) (λ it. it) (image_at g.S.Start) c.args.start c.work_over.result.left (c.work_over.ensures.ran ours clean)
