@@ -242,9 +242,10 @@ class Reading:
 
     def clauses(self, function):
         """The clauses of the function that the check does not prove, by the names of their goals."""
-        said = self.verdict(function)[0].partition("`search` did not prove")[2]
+        said, unsolved = self.verdict(function)
         errors = [it for it in self.errors(function) if not NAMES.search(it)]
-        goals = re.findall(r"`([\w.+-]+)`", said) + [it[1] for it in map(ERROR_IN.search, errors) if it]
+        goals = re.findall(r"`([\w.+-]+)`", said.partition("`search` did not prove")[2])
+        goals += [it[1] for it in map(ERROR_IN.search, errors) if it] + [name for _, name in unsolved]
         return sorted({it.rpartition("-clause-")[2] if "-clause-" in it else "ensures" for it in goals if it.startswith("returns")})
 
     def errors(self, function):
