@@ -40,6 +40,8 @@ PARALLEL = 0.4
 MORE_MEMORY = 0.6
 # The share of the free memory that checks may take.
 MOST_MEMORY = 0.85
+# A task that took less than this share of its seconds was taken over from an earlier run.
+WHOLE = 0.2
 # How often the line is written anew, in seconds, and the lines that are shown of a log that ends in a failure.
 EVERY, TAIL = 1, 40
 
@@ -63,12 +65,12 @@ class Progress:
 
     def __init__(self, log, out=sys.stderr):
         self.log, self.out, self.begin = log, out, time.monotonic()
-        self.crates, self.left, self.at_work, self.took = 0, {}, {}, {}
+        self.crates, self.tasks, self.left, self.at_work, self.took = 0, {}, {}, {}, {}
         self.turn, self.has_ended = threading.Lock(), threading.Event()
 
     def expect(self, tasks):
         """Says how long these tasks will take from nothing."""
-        self.left = {it: tasks[it][1] for it in tasks if tasks[it][1]}
+        self.tasks, self.left = tasks, {it: tasks[it][1] for it in tasks if tasks[it][1]}
         self.crates = len({crate for crate, *_ in self.left})
         lanes = RT.processors()
         about = expected(tasks, lanes) / 60
@@ -91,12 +93,21 @@ class Progress:
 
         return watching
 
+    def minutes_left(self):
+        """How many minutes are left, if this machine goes on as fast as it has proved so far. What was only taken over doesn't
+        count."""
+        now, proved = time.monotonic(), [it for it in self.took if self.took[it] > WHOLE * self.tasks[it][1]]
+        speed = sum(self.took[it] for it in proved) / sum(self.tasks[it][1] for it in proved) if proved else 1
+        seconds = {it: max(1, self.left[it] - (now - self.at_work.get(it, now)) / speed) for it in self.left}
+        return speed * expected({it: (waits, seconds.get(it, 0)) for it, (waits, *_) in self.tasks.items()}, RT.processors()) / 60
+
     def line(self):
         with self.turn:
             done = self.crates - len({crate for crate, *_ in self.left})
             names = ", ".join(dict.fromkeys(crate for crate, *_ in self.at_work))
+            left = f"about {self.minutes_left():.0f} min left" if self.left else "none left"
         took = minutes(time.monotonic() - self.begin)
-        return f"{done} of {self.crates} crates proved; at work: {names or 'none'}; {took}; log: {self.log}"
+        return f"{done} of {self.crates} crates proved; at work: {names or 'none'}; {took}, {left}; log: {self.log}"
 
     def show(self, key=None):
         """Writes the line over the last one, or, where nobody looks, below it once a task has ended."""
