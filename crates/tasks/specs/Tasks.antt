@@ -132,11 +132,13 @@ allowance_rule = record (new_rule (codes "allowance")) { long = Some (codes "all
 
 -- ---- the commands
 
+-- init FILE --clerk ID
+abbrev pub clerk_app : App
+clerk_app = with_rule (with_rule (new_app (codes "init")) file_rule) clerk_rule
+
 -- init FILE --clerk ID --secret SECRET --secret-file SECRETFILE --east M --west M --allowance N
 unfoldable pub init_app : App
-init_app =
-    let with_secrets = with_rule (with_rule (with_rule (with_rule (new_app (codes "init")) file_rule) clerk_rule) secret_rule) secret_file_rule in
-    with_rule (with_rule (with_rule with_secrets east_rule) west_rule) allowance_rule
+init_app = with_rule (with_rule (with_rule (with_rule (with_rule clerk_app secret_rule) secret_file_rule) east_rule) west_rule) allowance_rule
 
 -- desk FILE LINE
 unfoldable pub desk_app : App

@@ -1,8 +1,8 @@
 //! The program's command line, as clap reads it.
 ghost use Rattle.std.specs.Prelude.{◌≡◌, IfOk, false};
-ghost use Rattle.clap.specs.Words.{app_of, rule_of};
-ghost use Rattle.clap.specs.declared.builder.command.Command.TheViews.{out-Command};
-ghost use Rattle.tasks.specs.Tasks.{allowance_rule, bare_app, compare_app, connections_rule, desk_app, drop_app, expires_rule, export_app, host_rule, init_app, key_rule, link_app, links_app, list_app, manifest_app, migrate_app, minutes_rule, open_rule, option_rule, optional_rule, patience_rule, region_rule, replay_app, serve_app, streams_rule, target_app, with_desk_commands, with_list_commands, with_server_commands, word_rule};
+ghost use Rattle.clap.specs.Words.{App, Rule, app_of, new_app, rule_of, with_rule, with_subcommand};
+ghost use Rattle.tasks.specs.Building.{IsLocal};
+ghost use Rattle.tasks.specs.Tasks.{allowance_rule, bare_app, clerk_app, compare_app, connections_rule, desk_app, drop_app, expires_rule, export_app, host_rule, init_app, key_rule, link_app, links_app, list_app, manifest_app, migrate_app, minutes_rule, open_rule, option_rule, optional_rule, patience_rule, region_rule, replay_app, serve_app, streams_rule, target_app, with_desk_commands, with_list_commands, with_server_commands, word_rule};
 
 use clap::builder::ValueParser;
 use clap::{Arg, Command};
@@ -172,8 +172,8 @@ For an office file called office:
 pub(crate) fn command_line<'a>(alloc: Global) -> Result<Command<'a>, AllocError>
     ensures { IfOk result (λ c. app_of c ≡ drop_app) }
 {
-    let with_desk = add_desk_commands(alloc, bare_line(alloc))?;
-    let with_lists = add_list_commands(alloc, with_desk)?;
+    let with_desk = add_desk_commands(alloc, Ok(bare_line(alloc)));
+    let with_lists = add_list_commands(alloc, with_desk);
     add_server_commands(alloc, with_lists)
 }
 
@@ -190,253 +190,375 @@ fn bare_line<'a>(alloc: Global) -> Command<'a>
         .arg_required_else_help(true)
 }
 
-// `init`, `desk`, `link`, `links`.
-fn add_desk_commands<'a>(alloc: Global, line: Command<'a>) -> Result<Command<'a>, AllocError>
-    ensures { IfOk result (λ c. app_of c ≡ with_desk_commands (app_of line.entry)) }
+// Adds a command to those of `line`. A function that builds takes what may have failed, and passes on a refused allocation:
+// with `?` at each step a proof would grow with the square of the steps.
+fn with_command<'a>(
+    line: Result<Command<'a>, AllocError>,
+    command: Result<Command<'a>, AllocError>,
+) -> Result<Command<'a>, AllocError>
+    ensures { (app below : App) → IfOk line.entry (λ c. app_of c ≡ app) → IfOk command.entry (IsLocal below)
+        → IfOk result (λ c. app_of c ≡ with_subcommand app below.top) }
 {
-    line.subcommand(init_command(alloc)?)?
-        .subcommand(desk_command(alloc)?)?
-        .subcommand(link_command(alloc)?)?
-        .subcommand(links_command(alloc)?)
+    line?.subcommand(command?)
+}
+
+// `init`, `desk`, `link`, `links`.
+fn add_desk_commands<'a>(
+    alloc: Global,
+    line: Result<Command<'a>, AllocError>,
+) -> Result<Command<'a>, AllocError>
+    ensures { (app : App) → IfOk line.entry (λ c. app_of c ≡ app)
+        → IfOk result (λ c. app_of c ≡ with_desk_commands app) }
+{
+    let line = with_command(line, init_command(alloc));
+    let line = with_command(line, desk_command(alloc));
+    let line = with_command(line, link_command(alloc));
+    with_command(line, links_command(alloc))
 }
 
 // `manifest`, `compare`, `list`, `export`.
-fn add_list_commands<'a>(alloc: Global, line: Command<'a>) -> Result<Command<'a>, AllocError>
-    ensures { IfOk result (λ c. app_of c ≡ with_list_commands (app_of line.entry)) }
+fn add_list_commands<'a>(
+    alloc: Global,
+    line: Result<Command<'a>, AllocError>,
+) -> Result<Command<'a>, AllocError>
+    ensures { (app : App) → IfOk line.entry (λ c. app_of c ≡ app)
+        → IfOk result (λ c. app_of c ≡ with_list_commands app) }
 {
-    line.subcommand(manifest_command(alloc)?)?
-        .subcommand(compare_command(alloc)?)?
-        .subcommand(list_command(alloc)?)?
-        .subcommand(export_command(alloc)?)
+    let line = with_command(line, manifest_command(alloc));
+    let line = with_command(line, compare_command(alloc));
+    let line = with_command(line, list_command(alloc));
+    with_command(line, export_command(alloc))
 }
 
 // `replay`, `serve`, `migrate`.
-fn add_server_commands<'a>(alloc: Global, line: Command<'a>) -> Result<Command<'a>, AllocError>
-    ensures { IfOk result (λ c. app_of c ≡ with_server_commands (app_of line.entry)) }
+fn add_server_commands<'a>(
+    alloc: Global,
+    line: Result<Command<'a>, AllocError>,
+) -> Result<Command<'a>, AllocError>
+    ensures { (app : App) → IfOk line.entry (λ c. app_of c ≡ app)
+        → IfOk result (λ c. app_of c ≡ with_server_commands app) }
 {
-    line.subcommand(replay_command(alloc)?)?
-        .subcommand(serve_command(alloc)?)?
-        .subcommand(migrate_command(alloc)?)
+    let line = with_command(line, replay_command(alloc));
+    let line = with_command(line, serve_command(alloc));
+    with_command(line, migrate_command(alloc))
+}
+
+// The command of this name, without arguments.
+fn named<'a>(alloc: Global, name: &'a str, about: &'a str) -> Command<'a>
+    ensures { IsLocal (new_app name.entry.now) result }
+{
+    Command::new(alloc, name).about(about)
+}
+
+// The same with a text after its help.
+fn explained<'a>(alloc: Global, name: &'a str, about: &'a str, text: &'a str) -> Command<'a>
+    ensures { IsLocal (new_app name.entry.now) result }
+{
+    named(alloc, name, about).after_help(text)
+}
+
+// Adds an argument to a command.
+fn with_arg<'a>(
+    command: Result<Command<'a>, AllocError>,
+    arg: Arg<'a>,
+) -> Result<Command<'a>, AllocError>
+    ensures { (app : App) (rule : Rule) → IfOk command.entry (IsLocal app) → rule_of arg.entry ≡ rule → arg.entry.global ≡ false
+        → IfOk result (IsLocal (with_rule app rule)) }
+{
+    command?.arg(arg)
 }
 
 /// `init FILE --clerk ID --secret SECRET --secret-file SECRETFILE --east M --west M --allowance N`. clap does
 /// not know that exactly one of the two secrets is required.
 pub(crate) fn init_command<'a>(alloc: Global) -> Result<Command<'a>, AllocError>
-    ensures app { IfOk result (λ c. app_of c ≡ init_app) }
-    ensures local { IfOk result (λ c. (out-Command c).has_globals ≡ false) }
+    ensures { IfOk result (IsLocal init_app) }
 {
-    Command::new(alloc, "init")
-        .about("Makes an office file with one clerk's key and no boxes")
-        .override_usage(INIT_USAGE)
-        .arg(word(
-            alloc,
-            "file",
-            "FILE",
-            "The office file to make. It must not exist, or be empty",
-        ))?
-        .arg(option(
-            alloc,
-            "clerk",
-            "ID",
-            "The id of the clerk's key: 1 to 64 of A-Z a-z 0-9 - _",
-        ))?
-        .arg(optional(
+    let command = init_by_clerk(alloc);
+    let command = with_arg(
+        command,
+        optional(
             alloc,
             "secret",
             "SECRET",
             "The key's secret: 1 to 128 visible ASCII characters without spaces",
-        ))?
-        .arg(optional(
+        ),
+    );
+    let command = with_arg(
+        command,
+        optional(
             alloc,
             "secret-file",
             "SECRETFILE",
             "A file that holds the secret as its only line, so that the command line does not show it",
-        ))?
-        .arg(minutes(
+        ),
+    );
+    let command = with_arg(
+        command,
+        minutes(
             alloc,
             "east",
             "How many minutes the office's clock is ahead of UTC: 0 to 840",
-        ))?
-        .arg(minutes(alloc, "west", "How many minutes it is behind UTC: 0 to 840"))?
-        .arg(allowance_option(alloc))
+        ),
+    );
+    let command = with_arg(
+        command,
+        minutes(alloc, "west", "How many minutes it is behind UTC: 0 to 840"),
+    );
+    with_arg(command, allowance_option(alloc))
+}
+
+// `init FILE --clerk ID`.
+fn init_by_clerk<'a>(alloc: Global) -> Result<Command<'a>, AllocError>
+    ensures { IfOk result (IsLocal clerk_app) }
+{
+    let command = named(
+        alloc,
+        "init",
+        "Makes an office file with one clerk's key and no boxes",
+    )
+    .override_usage(INIT_USAGE);
+    let command = with_arg(
+        Ok(command),
+        word(
+            alloc,
+            "file",
+            "FILE",
+            "The office file to make. It must not exist, or be empty",
+        ),
+    );
+    with_arg(
+        command,
+        option(
+            alloc,
+            "clerk",
+            "ID",
+            "The id of the clerk's key: 1 to 64 of A-Z a-z 0-9 - _",
+        ),
+    )
 }
 
 // `desk FILE LINE`.
 fn desk_command<'a>(alloc: Global) -> Result<Command<'a>, AllocError>
-    ensures app { IfOk result (λ c. app_of c ≡ desk_app) }
-    ensures local { IfOk result (λ c. (out-Command c).has_globals ≡ false) }
+    ensures { IfOk result (IsLocal desk_app) }
 {
-    Command::new(alloc, "desk")
-        .about("Runs one command of the desk, on a key, a box, a file or the office")
-        .after_help(DESK_FORMS)
-        .arg(word(alloc, "file", "FILE", "The office file"))?
-        .arg(word(
+    let command = explained(
+        alloc,
+        "desk",
+        "Runs one command of the desk, on a key, a box, a file or the office",
+        DESK_FORMS,
+    );
+    let command = with_arg(Ok(command), word(alloc, "file", "FILE", "The office file"));
+    with_arg(
+        command,
+        word(
             alloc,
             "line",
             "LINE",
             "One command of the desk in quotes, or - to read it from standard input",
-        ))
+        ),
+    )
 }
 
 // `link FILE METHOD TARGET --key ID --host H --region R --start MOMENT --expires N`.
 fn link_command<'a>(alloc: Global) -> Result<Command<'a>, AllocError>
-    ensures app { IfOk result (λ c. app_of c ≡ link_app) }
-    ensures local { IfOk result (λ c. (out-Command c).has_globals ≡ false) }
+    ensures { IfOk result (IsLocal link_app) }
 {
-    target_command(alloc)?
-        .arg(key_option(alloc))?
-        .arg(host_option(alloc))?
-        .arg(region_option(alloc))?
-        .arg(option(
+    let command = with_arg(target_command(alloc), key_option(alloc));
+    let command = with_arg(command, host_option(alloc));
+    let command = with_arg(command, region_option(alloc));
+    let command = with_arg(
+        command,
+        option(
             alloc,
             "start",
             "MOMENT",
             "When the link becomes valid, in UTC: 20130524T000000Z. An office with an allowance accepts it that much earlier",
-        ))?
-        .arg(expires_option(alloc))
+        ),
+    );
+    with_arg(command, expires_option(alloc))
 }
 
 // `link FILE METHOD TARGET`.
 fn target_command<'a>(alloc: Global) -> Result<Command<'a>, AllocError>
-    ensures app { IfOk result (λ c. app_of c ≡ target_app) }
-    ensures local { IfOk result (λ c. (out-Command c).has_globals ≡ false) }
+    ensures { IfOk result (IsLocal target_app) }
 {
-    Command::new(alloc, "link")
-        .about("Writes a link to a file of an office, or to its desk, signed by a key")
-        .arg(word(alloc, "file", "FILE", SIGNER))?
-        .arg(word(
+    let command = named(
+        alloc,
+        "link",
+        "Writes a link to a file of an office, or to its desk, signed by a key",
+    );
+    let command = with_arg(Ok(command), word(alloc, "file", "FILE", SIGNER));
+    let command = with_arg(
+        command,
+        word(
             alloc,
             "method",
             "METHOD",
             "PUT to upload, GET or HEAD to fetch, POST for a desk command",
-        ))?
-        .arg(word(
+        ),
+    );
+    with_arg(
+        command,
+        word(
             alloc,
             "target",
             "TARGET",
             "The box and the file's name: box/name. For POST the desk command",
-        ))
+        ),
+    )
 }
 
 // `links FILE --key ID --host H --region R`.
 fn links_command<'a>(alloc: Global) -> Result<Command<'a>, AllocError>
-    ensures app { IfOk result (λ c. app_of c ≡ links_app) }
-    ensures local { IfOk result (λ c. (out-Command c).has_globals ≡ false) }
+    ensures { IfOk result (IsLocal links_app) }
 {
-    Command::new(alloc, "links")
-        .about("Reads a list of wanted links and writes it with the signed links")
-        .after_help(LINK_ROWS)
-        .arg(word(alloc, "file", "FILE", SIGNER))?
-        .arg(key_option(alloc))?
-        .arg(host_option(alloc))?
-        .arg(region_option(alloc))
+    let command = explained(
+        alloc,
+        "links",
+        "Reads a list of wanted links and writes it with the signed links",
+        LINK_ROWS,
+    );
+    let command = with_arg(Ok(command), word(alloc, "file", "FILE", SIGNER));
+    let command = with_arg(command, key_option(alloc));
+    let command = with_arg(command, host_option(alloc));
+    with_arg(command, region_option(alloc))
 }
 
 // `manifest FILE`.
 fn manifest_command<'a>(alloc: Global) -> Result<Command<'a>, AllocError>
-    ensures app { IfOk result (λ c. app_of c ≡ manifest_app) }
-    ensures local { IfOk result (λ c. (out-Command c).has_globals ≡ false) }
+    ensures { IfOk result (IsLocal manifest_app) }
 {
-    Command::new(alloc, "manifest")
-        .about("Writes the receipts of an office as a list")
-        .after_help(RECEIPT_ROWS)
-        .arg(word(alloc, "file", "FILE", "The office file"))
+    let command = explained(
+        alloc,
+        "manifest",
+        "Writes the receipts of an office as a list",
+        RECEIPT_ROWS,
+    );
+    with_arg(Ok(command), word(alloc, "file", "FILE", "The office file"))
 }
 
 // `compare FILE`.
 fn compare_command<'a>(alloc: Global) -> Result<Command<'a>, AllocError>
-    ensures app { IfOk result (λ c. app_of c ≡ compare_app) }
-    ensures local { IfOk result (λ c. (out-Command c).has_globals ≡ false) }
+    ensures { IfOk result (IsLocal compare_app) }
 {
-    Command::new(alloc, "compare")
-        .about("Reads a manifest and tells for each receipt whether its file is still there")
-        .after_help(STATE_ROWS)
-        .arg(word(alloc, "file", "FILE", "The office file"))
+    let command = explained(
+        alloc,
+        "compare",
+        "Reads a manifest and tells for each receipt whether its file is still there",
+        STATE_ROWS,
+    );
+    with_arg(Ok(command), word(alloc, "file", "FILE", "The office file"))
 }
 
 // `list FILE WHAT`.
 fn list_command<'a>(alloc: Global) -> Result<Command<'a>, AllocError>
-    ensures app { IfOk result (λ c. app_of c ≡ list_app) }
-    ensures local { IfOk result (λ c. (out-Command c).has_globals ≡ false) }
+    ensures { IfOk result (IsLocal list_app) }
 {
-    Command::new(alloc, "list")
-        .about("Lists the keys, the boxes or the files of an office")
-        .after_help(LISTED_ROWS)
-        .arg(word(alloc, "file", "FILE", "The office file"))?
-        .arg(word(alloc, "what", "WHAT", "What to list: keys, boxes or files"))
+    let command = explained(
+        alloc,
+        "list",
+        "Lists the keys, the boxes or the files of an office",
+        LISTED_ROWS,
+    );
+    let command = with_arg(Ok(command), word(alloc, "file", "FILE", "The office file"));
+    with_arg(
+        command,
+        word(alloc, "what", "WHAT", "What to list: keys, boxes or files"),
+    )
 }
 
 // `export FILE DIR --box NAME`.
 fn export_command<'a>(alloc: Global) -> Result<Command<'a>, AllocError>
-    ensures app { IfOk result (λ c. app_of c ≡ export_app) }
-    ensures local { IfOk result (λ c. (out-Command c).has_globals ≡ false) }
+    ensures { IfOk result (IsLocal export_app) }
 {
-    Command::new(alloc, "export")
-        .about("Writes the files of an office to a folder, with lists of them")
-        .after_help(EXPORTED)
-        .arg(word(alloc, "file", "FILE", "The office file"))?
-        .arg(word(alloc, "dir", "DIR", "The folder to make"))?
-        .arg(optional(alloc, "box", "NAME", "Writes only the files of this box"))
+    let command = explained(
+        alloc,
+        "export",
+        "Writes the files of an office to a folder, with lists of them",
+        EXPORTED,
+    );
+    let command = with_arg(Ok(command), word(alloc, "file", "FILE", "The office file"));
+    let command = with_arg(command, word(alloc, "dir", "DIR", "The folder to make"));
+    with_arg(
+        command,
+        optional(alloc, "box", "NAME", "Writes only the files of this box"),
+    )
 }
 
 // `replay FILE STREAM.. --at MOMENT`.
 fn replay_command<'a>(alloc: Global) -> Result<Command<'a>, AllocError>
-    ensures app { IfOk result (λ c. app_of c ≡ replay_app) }
-    ensures local { IfOk result (λ c. (out-Command c).has_globals ≡ false) }
+    ensures { IfOk result (IsLocal replay_app) }
 {
-    Command::new(alloc, "replay")
-        .about("Answers recorded connections, one after another, and prints the answers")
-        .arg(word(
+    let command = named(
+        alloc,
+        "replay",
+        "Answers recorded connections, one after another, and prints the answers",
+    );
+    let command = with_arg(
+        Ok(command),
+        word(
             alloc,
             "file",
             "FILE",
             "The office file. memory:ID/SECRET makes an empty office for this run, with one clerk's key",
-        ))?
-        .arg(streams(alloc))?
-        .arg(option(
+        ),
+    );
+    let command = with_arg(command, streams(alloc));
+    with_arg(
+        command,
+        option(
             alloc,
             "at",
             "MOMENT",
             "The time to answer at, in UTC: 20130524T000000Z is 24 May 2013, 00:00:00",
-        ))
+        ),
+    )
 }
 
 // `serve FILE --listen ADDR --connections N --patience SECONDS --open N --manifest OUT`.
 fn serve_command<'a>(alloc: Global) -> Result<Command<'a>, AllocError>
-    ensures app { IfOk result (λ c. app_of c ≡ serve_app) }
-    ensures local { IfOk result (λ c. (out-Command c).has_globals ≡ false) }
+    ensures { IfOk result (IsLocal serve_app) }
 {
-    Command::new(alloc, "serve")
-        .about("Serves an office over HTTP until the given number of connections have ended")
-        .arg(word(alloc, "file", "FILE", "The office file"))?
-        .arg(option(
+    let command = named(
+        alloc,
+        "serve",
+        "Serves an office over HTTP until the given number of connections have ended",
+    );
+    let command = with_arg(Ok(command), word(alloc, "file", "FILE", "The office file"));
+    let command = with_arg(
+        command,
+        option(
             alloc,
             "listen",
             "ADDR",
             "The address to listen on: 127.0.0.1:8080, or 0.0.0.0:8080 for all addresses of this machine",
-        ))?
-        .arg(connections_option(alloc))?
-        .arg(patience_option(alloc))?
-        .arg(open_option(alloc))?
-        .arg(optional(
+        ),
+    );
+    let command = with_arg(command, connections_option(alloc));
+    let command = with_arg(command, patience_option(alloc));
+    let command = with_arg(command, open_option(alloc));
+    with_arg(
+        command,
+        optional(
             alloc,
             "manifest",
             "OUT",
             "A file that is kept up to date as the office's manifest",
-        ))
+        ),
+    )
 }
 
 // `migrate FILE`.
 fn migrate_command<'a>(alloc: Global) -> Result<Command<'a>, AllocError>
-    ensures app { IfOk result (λ c. app_of c ≡ migrate_app) }
-    ensures local { IfOk result (λ c. (out-Command c).has_globals ≡ false) }
+    ensures { IfOk result (IsLocal migrate_app) }
 {
-    Command::new(alloc, "migrate")
-        .about(
-            "Migrates an office file from version 1 to version 2; a file of version 2 stays as it is",
-        )
-        .after_help(UPGRADE)
-        .arg(word(alloc, "file", "FILE", "The office file"))
+    let command = explained(
+        alloc,
+        "migrate",
+        "Migrates an office file from version 1 to version 2; a file of version 2 stays as it is",
+        UPGRADE,
+    );
+    with_arg(Ok(command), word(alloc, "file", "FILE", "The office file"))
 }
 
 // A positional value, with the name that the help shows.

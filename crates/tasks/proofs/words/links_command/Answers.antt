@@ -1,23 +1,10 @@
-use Rattle.std.proofs.Common.{◌∙◌, ◌||◌, ap, ap₂}
-use Rattle.std.proofs.lemmas.Result.{IfOk-weaker}
-use Rattle.clap.specs.Simple.{app_of_fields}
-use Rattle.clap.specs.Words.{with_rule}
 use Rattle.tasks.specs.Tasks.{links_app, file_rule}
 use Rattle.tasks.proofs.words.links_command.Goals as goal
 
-pub returns-clause-app : goal.returns-clause-app
+pub returns : goal.returns
 unfolding links_app file_rule
-returns-clause-app c =
-    let start = ap app_of_fields c.after_help.ensures ∙ ap app_of_fields c.about.ensures ∙ c.new.ensures.app in
-    let with_file = c.in_ok-arg.ensures.shape c.word.ensures.local ∙ ap₂ with_rule start c.word.ensures.rule in
-    let with_key = c.in_ok-arg-2.ensures.shape c.key_option.ensures.local ∙ ap₂ with_rule with_file c.key_option.ensures.rule in
-    let with_host = c.in_ok-arg-3.ensures.shape c.host_option.ensures.local ∙ ap₂ with_rule with_key c.host_option.ensures.rule in
-    IfOk-weaker c.arg-4.result _ _ (λ r added. added.shape c.region_option.ensures.local ∙ ap₂ with_rule with_host c.region_option.ensures.rule) c.arg-4.ensures
-
-pub returns-clause-local : goal.returns-clause-local
-returns-clause-local c =
-    let none = ap (λ f. f.has_globals) c.after_help.ensures ∙ ap (λ f. f.has_globals) c.about.ensures ∙ c.new.ensures.local in
-    let one = c.in_ok-arg.ensures.globals ∙ ap₂ (λ x y. x || y) none c.word.ensures.local in
-    let two = c.in_ok-arg-2.ensures.globals ∙ ap₂ (λ x y. x || y) one c.key_option.ensures.local in
-    let three = c.in_ok-arg-3.ensures.globals ∙ ap₂ (λ x y. x || y) two c.host_option.ensures.local in
-    IfOk-weaker c.arg-4.result _ _ (λ r added. added.globals ∙ ap₂ (λ x y. x || y) three c.region_option.ensures.local) c.arg-4.ensures
+returns c =
+    let with_1 = c.with_arg-command.ensures _ _ c.explained-command.ensures c.word.ensures.rule c.word.ensures.local in
+    let with_2 = c.with_arg-command-2.ensures _ _ with_1 c.key_option.ensures.rule c.key_option.ensures.local in
+    let with_3 = c.with_arg-command-3.ensures _ _ with_2 c.host_option.ensures.rule c.host_option.ensures.local in
+    c.with_arg.ensures _ _ with_3 c.region_option.ensures.rule c.region_option.ensures.local

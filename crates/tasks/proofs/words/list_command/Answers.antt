@@ -1,13 +1,8 @@
-use Rattle.std.proofs.Common.{◌∙◌, ap, ap₂}
-use Rattle.std.proofs.lemmas.Result.{IfOk-weaker}
-use Rattle.clap.specs.Simple.{app_of_fields}
-use Rattle.clap.specs.Words.{with_rule}
 use Rattle.tasks.specs.Tasks.{list_app, file_rule, what_rule}
 use Rattle.tasks.proofs.words.list_command.Goals as goal
 
-pub returns-clause-app : goal.returns-clause-app
+pub returns : goal.returns
 unfolding list_app file_rule what_rule
-returns-clause-app c =
-    let start = ap app_of_fields c.after_help.ensures ∙ ap app_of_fields c.about.ensures ∙ c.new.ensures.app in
-    let with_file = c.in_ok-arg.ensures.shape c.word.ensures.local ∙ ap₂ with_rule start c.word.ensures.rule in
-    IfOk-weaker c.arg-2.result _ _ (λ r added. added.shape c.word-2.ensures.local ∙ ap₂ with_rule with_file c.word-2.ensures.rule) c.arg-2.ensures
+returns c =
+    let with_1 = c.with_arg-command.ensures _ _ c.explained-command.ensures c.word.ensures.rule c.word.ensures.local in
+    c.with_arg.ensures _ _ with_1 c.word-2.ensures.rule c.word-2.ensures.local
