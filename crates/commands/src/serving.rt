@@ -1,7 +1,7 @@
 //! `drop serve`: serves an office at an address.
-ghost use Rattle.std.specs.Prelude.{◌≡◌, IfOk, IfSome, IsOk, IsOkAnd};
+ghost use Rattle.std.specs.Prelude.{◌≡◌, IfErr, IfOk, IfSome, IsOk, IsOkAnd};
 ghost use Rattle.std.specs.Net.Grammar.{IsSocketV4Text};
-ghost use Rattle.commands.specs.Serving.{IsFine, MayServe};
+ghost use Rattle.commands.specs.Serving.{IsFine, MayServe, NothingCame};
 ghost use Rattle.commands.specs.Wording.{IsPatience, IsServiceOf};
 ghost use Rattle.commands.specs.Working.{Passes};
 
@@ -179,24 +179,67 @@ pub(crate) fn serve_at<K: Keeper, N: Outside + Drop, W: Write>(
         ⟦<Outbox<<N::Listener as Listener>::End> as Write>⟧.contents service.now.address
         service.now.limits (IsOk result.result) outside result.ending) }
 {
+    match begin(rt, service, outside, out) {
+        Ok(begun) => {
+            let Begun {
+                poll,
+                mut clock,
+                listener,
+            } = begun;
+            let served = serve(rt, poll, office, listener, service.limits, &mut clock);
+            Session {
+                result: result_of(&served.outcome),
+                ending: Ending::Served(served, clock),
+            }
+        }
+        Err(session) => session,
+    }
+}
+
+// A service that listens.
+#[derive(Drop)]
+struct Begun<L, C> {
+    poll: Poll,
+    clock: C,
+    listener: L,
+}
+
+// Listens at the address, and says so on `out`. The error is how a service ends that took no connection.
+fn begin<N: Outside + Drop, W: Write>(
+    rt: &HostRuntime,
+    service: &Service<'_>,
+    outside: N,
+    out: &mut W,
+) -> Result<
+    Begun<N::Listener, N::Clock>,
+    Session<N, N::Listener, <N::Listener as Listener>::End, N::Clock>,
+>
+    ensures listens { IfOk result (λ begun. N.listens service.now.address begun.listener) }
+    ensures begins { IfOk result (λ begun. N.begins begun.clock) }
+    ensures failed { IfErr result (λ session. IsOk session.result → ⊥) }
+    ensures idle { IfErr result (λ session. NothingCame N.listens N.begins N.Clock.now_gives N.Listener.told
+        N.Listener.are_ends ⟦<Gathered<<N::Listener as Listener>::End> as Read>⟧.remaining
+        ⟦<Outbox<<N::Listener as Listener>::End> as Write>⟧.contents service.now.address
+        service.now.limits outside session.ending) }
+{
     let Ok(poll) = Poll::new(rt) else {
-        return unserved(Fault::CannotListen, Ending::Idle(outside));
+        return Err(unserved(Fault::CannotListen, Ending::Idle(outside)));
     };
-    let Ok(mut clock) = outside.clock(service.file) else {
-        return unserved(Fault::OutOfMemory, Ending::Idle(outside));
+    let Ok(clock) = outside.clock(service.file) else {
+        return Err(unserved(Fault::OutOfMemory, Ending::Idle(outside)));
     };
     let listener = match outside.listen(service.address) {
         Ok(listener) => listener,
-        Err(outside) => return unserved(Fault::CannotListen, Ending::Idle(outside)),
+        Err(outside) => return Err(unserved(Fault::CannotListen, Ending::Idle(outside))),
     };
     if writeln!(out, "listening on {}", service.listen).is_err() || out.flush().is_err() {
-        return unserved(Fault::CannotWrite, Ending::Listening(listener));
+        return Err(unserved(Fault::CannotWrite, Ending::Listening(listener)));
     }
-    let served = serve(rt, poll, office, listener, service.limits, &mut clock);
-    Session {
-        result: result_of(&served.outcome),
-        ending: Ending::Served(served, clock),
-    }
+    Ok(Begun {
+        poll,
+        clock,
+        listener,
+    })
 }
 
 // The result of a service.

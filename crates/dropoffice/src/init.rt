@@ -41,25 +41,55 @@ pub(crate) fn do_init<S: Start + Drop>(
         ⊎ ((IsOk result.gain → ⊥) × IsSpared (image_at S.Start) start (LeavesHeld (image_at S.Start) (MayBeMade words.now (image_at S.Start))) result.left) }
     ensures opened { IsOk result.gain → IsOk result.closed → IsClosed result.left }
 {
-    let (office, secret) = match read_words(rt, words) {
-        Ok(read) => read,
-        Err(fault) => return ended_with(Err(fault), Left::Unopened(start)),
-    };
+    match read_words(rt, words) {
+        Ok((office, secret)) => init_with(rt, words, office, secret.as_slice(), start),
+        Err(fault) => ended_with(Err(fault), Left::Unopened(start)),
+    }
+}
+
+// Makes an office file with these settings.
+fn init_with<S: Start + Drop>(
+    rt: &HostRuntime,
+    words: &Init<'_>,
+    office: OfficeRow,
+    secret: &[u8],
+    start: S,
+) -> Worked<Result<(), Fault>, S, FileFrom<S>>
+    ensures made { IsFirstRow words.now office secret.now → IsCleanLeft result.left
+        → Made words.now (image_at S.Start) result.left
+        ⊎ ((IsOk result.gain → ⊥) × IsSpared (image_at S.Start) start (LeavesHeld (image_at S.Start) (MayBeMade words.now (image_at S.Start))) result.left) }
+    ensures opened { IsOk result.gain → IsOk result.closed → IsClosed result.left }
+{
     let Ok(log) = format!(in rt.alloc(); "{}-wal", words.file) else {
         return ended_with(Err(Fault::OutOfMemory), Left::Unopened(start));
     };
     let had_log = fs::symlink_metadata(rt, log.as_str()).is_ok();
-    let is_new = match make_file(rt, words.file) {
-        Ok(is_new) => is_new,
-        Err(fault) => return ended_with(Err(fault), Left::Unopened(start)),
-    };
-    let made = make_office(rt, words, secret.as_slice(), office, start);
-    if is_new && is_unmade(&made.gain) {
-        let Worked { gain, .. } = made;
-        remove_made(rt, words.file, log.as_str(), had_log);
-        return ended_with(gain, Left::Lost);
+    match make_file(rt, words.file) {
+        Ok(is_new) => {
+            let made = make_office(rt, words, secret, office, start);
+            unless_unmade(rt, words.file, log.as_str(), had_log, is_new, made)
+        }
+        Err(fault) => ended_with(Err(fault), Left::Unopened(start)),
     }
-    made
+}
+
+// The same. A new file that is no office is removed.
+fn unless_unmade<S: Start + Drop>(
+    rt: &HostRuntime,
+    file: &str,
+    log: &str,
+    had_log: bool,
+    is_new: bool,
+    made: Worked<Result<(), Fault>, S, FileFrom<S>>,
+) -> Worked<Result<(), Fault>, S, FileFrom<S>>
+    ensures { (result ≡ made) ⊎ ((IsOk result.gain → ⊥) × (result.left ≡ Left.Lost)) }
+{
+    if !is_new || !is_unmade(&made.gain) {
+        return made;
+    }
+    let Worked { gain, .. } = made;
+    remove_made(rt, file, log, had_log);
+    ended_with(gain, Left::Lost)
 }
 
 // The office's settings and the secret of its clerk.

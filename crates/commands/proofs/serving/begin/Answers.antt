@@ -1,0 +1,14 @@
+use Rattle.std.proofs.Common.{refl}
+use Rattle.commands.proofs.serving.begin.Goals as goal
+
+pub returns-in_default-clause-idle : goal.returns-in_default-clause-idle
+returns-in_default-clause-idle g c = rw c.unserved.ensures.ending refl
+
+pub returns-in_default-clock-clause-idle : goal.returns-in_default-clock-clause-idle
+returns-in_default-clock-clause-idle g c = rw c.unserved-in_default-clock.ensures.ending refl
+
+pub returns-in-Err-clause-idle : goal.returns-in-Err-clause-idle
+returns-in-Err-clause-idle g c = rw c.unserved-in-Err.ensures.ending c.in-Err.ensures.same
+
+pub returns-then-is_err-clause-idle : goal.returns-then-is_err-clause-idle
+returns-then-is_err-clause-idle g c = rw c.unserved-then-is_err.ensures.ending c.in-Ok-listen.ensures.listens
