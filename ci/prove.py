@@ -6,8 +6,8 @@ The code of `rt` does the work. Three things are different here:
 - `rt` allows each check more memory than it was ever seen to take, so few run in parallel. Here it is half as much.
 - The crates with the most work behind them come first, by the seconds in ci/seconds.txt. `rt` counts lines. A check has more than
   one processor only if no other check can use it.
-- With `--program`, one compiler builds the program, which stays in `crates/NAME/out`. `rt ci` uses two, and compares what both
-  programs write.
+- With `--program`, one compiler builds the program, which stays in `crates/NAME/out`. Without, two build it at the same time, and
+  `rt` compares what both programs write.
 
 Before it begins, it says how long it will take. Then it shows a line that moves: how many crates are proved, which are at work,
 and for how long. The output of `rt` goes to a file, which that line names.
@@ -234,9 +234,15 @@ def arrange(progress, wants_program):
     def compile_once(crate, backend, words, to):
         return compile_by(crate, backend, words, to) if backend == "llvm" else 0
 
+    def compile_together(crate, backend, words, to):
+        if backend == "rattle":
+            return others.pop(crate.name).result()
+        others[crate.name] = compilers.submit(compile_by, crate, "rattle", words, to)
+        return compile_by(crate, backend, words, to)
+
+    others, compilers = {}, concurrent.futures.ThreadPoolExecutor()
     RT.in_lanes = in_our_lanes
-    if wants_program:
-        RT.Crate.compile_by = compile_once
+    RT.Crate.compile_by = compile_once if wants_program else compile_together
 
 
 def proved(names):
