@@ -10,7 +10,7 @@ The code of `rt` does the work. Three things are different here:
   `rt` compares what both programs write.
 
 Before it begins, it says how long it will take. Then it shows a line that moves: how many crates are proved, which are at work,
-and for how long. The output of `rt` goes to a file, which that line names.
+for how long, and how many minutes are left. The output of `rt` goes to a file, which that line names.
 """
 
 import argparse
