@@ -64,32 +64,15 @@ fn init_with<S: Start + Drop>(
         return ended_with(Err(Fault::OutOfMemory), Left::Unopened(start));
     };
     let had_log = fs::symlink_metadata(rt, log.as_str()).is_ok();
-    match make_file(rt, words.file) {
-        Ok(is_new) => {
-            let made = make_office(rt, words, secret, office, start);
-            unless_unmade(rt, words.file, log.as_str(), had_log, is_new, made)
-        }
-        Err(fault) => ended_with(Err(fault), Left::Unopened(start)),
+    let is_new = match make_file(rt, words.file) {
+        Ok(is_new) => is_new,
+        Err(fault) => return ended_with(Err(fault), Left::Unopened(start)),
+    };
+    let made = make_office(rt, words, secret, office, start);
+    if is_new && is_unmade(&made.gain) {
+        remove_made(rt, words.file, log.as_str(), had_log);
     }
-}
-
-// The same. A new file that is no office is removed.
-fn unless_unmade<S: Start + Drop>(
-    rt: &HostRuntime,
-    file: &str,
-    log: &str,
-    had_log: bool,
-    is_new: bool,
-    made: Worked<Result<(), Fault>, S, FileFrom<S>>,
-) -> Worked<Result<(), Fault>, S, FileFrom<S>>
-    ensures { (result ≡ made) ⊎ ((IsOk result.gain → ⊥) × (result.left ≡ Left.Lost)) }
-{
-    if !is_new || !is_unmade(&made.gain) {
-        return made;
-    }
-    let Worked { gain, .. } = made;
-    remove_made(rt, file, log, had_log);
-    ended_with(gain, Left::Lost)
+    made
 }
 
 // The office's settings and the secret of its clerk.
