@@ -35,7 +35,7 @@ SECONDS = pathlib.Path(__file__).with_name("seconds.txt")
 # The seconds for each line of a crate that is not listed there.
 PER_LINE = 0.05
 # The share of a check that several processors do in parallel.
-PARALLEL = 0.4
+PARALLEL = 0.5
 # The share of a check's memory that each processor more takes, as `rt` has it.
 MORE_MEMORY = 0.6
 # The share of the free memory that checks may take.
