@@ -4,10 +4,10 @@ memory allow. `rt ci` keeps what it proves on this machine, and a later run take
 The code of `rt` does the work. Three things are different here:
 
 - `rt` allows each check more memory than it was ever seen to take, so few run in parallel. Here it is half as much.
-- The crates with the most work behind them come first, by the seconds in ci/seconds.txt. `rt` counts lines. A check has more than
-  one processor only if no other check can use it.
-- With `--program`, one compiler builds the program, which stays in `crates/NAME/out`. Without, two build it at the same time, and
-  `rt` compares what both programs write.
+- The crates with the most work behind them come first, by the seconds in ci/seconds.txt. `rt` counts lines.
+- Several processors take a quarter more time together than one takes alone. So a check has one, until few crates are left.
+- With `--program`, the program is compiled by the run that proves it, and stays in `crates/NAME/out`. Without, two compilers build
+  it at the same time, and `rt` compares what both programs write.
 
 Before it begins, it says how long it will take. Then it shows a line that moves: how many crates are proved, which are at work,
 for how long, and how many minutes are left. The output of `rt` goes to a file, which that line names.
@@ -36,6 +36,8 @@ SECONDS = pathlib.Path(__file__).with_name("seconds.txt")
 PER_LINE = 0.05
 # The share of a check that several processors do in parallel.
 PARALLEL = 0.5
+# A check has more than one processor only if at most so many have not begun.
+FEW = 5
 # The share of a check's memory that each processor more takes, as `rt` has it.
 MORE_MEMORY = 0.6
 # The share of the free memory that checks may take.
@@ -187,9 +189,11 @@ def in_order(tasks):
 
 
 def next_tasks(tasks, left, given, free):
-    """The tasks to begin now on the free processors, each with how many of them it has."""
+    """The tasks to begin now on the free processors, each with how many of them it has. Each has one, but once no more than `FEW`
+    are left, the first has all that the others don't need."""
     ready = [it for it in left if all(below in given for below in tasks[it][0])][:free]
-    return [(it, (free - at - 1) // len(ready) + 1) for at, it in enumerate(ready)]
+    spare = free - len(ready) if len(left) <= FEW else 0
+    return [(it, 1 if at else 1 + spare) for at, it in enumerate(ready)]
 
 
 def expected(tasks, lanes):
@@ -207,7 +211,7 @@ def expected(tasks, lanes):
 
 def arrange(progress, wants_program):
     """Has the code of `rt` run its tasks in our lanes, and tell how far they are."""
-    compile_by, known = RT.Crate.compile_by, known_seconds()
+    prove, compile_by, known = RT.Crate.ci, RT.Crate.compile_by, known_seconds()
 
     def in_our_lanes(tasks):
         ours = {}
@@ -231,8 +235,12 @@ def arrange(progress, wants_program):
 
         return kept
 
-    def compile_once(crate, backend, words, to):
-        return compile_by(crate, backend, words, to) if backend == "llvm" else 0
+    def prove_and_compile(crate, flags, tests):
+        if tests or not crate.is_program:
+            return prove(crate, flags, tests)
+        words, made = crate.words(flags, keeps=False), f"out/{crate.name}"
+        how = ["--toolchain", f"{RT.KIT}/toolchain", "--backend", "llvm", "-o", f"{made}.o"]
+        return crate.prove(["build", *words, *how]) or crate.link(f"{made}.o", made)
 
     def compile_together(crate, backend, words, to):
         if backend == "rattle":
@@ -242,7 +250,10 @@ def arrange(progress, wants_program):
 
     others, compilers = {}, concurrent.futures.ThreadPoolExecutor()
     RT.in_lanes = in_our_lanes
-    RT.Crate.compile_by = compile_once if wants_program else compile_together
+    if wants_program:
+        RT.Crate.ci = prove_and_compile
+    else:
+        RT.Crate.compile_by = compile_together
 
 
 def proved(names):

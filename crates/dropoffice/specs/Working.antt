@@ -1,6 +1,8 @@
 -- What the command's work makes of the open connection.
 use Rattle.std.specs.Prelude.{◌≡◌, ◌⊎◌, IsTrue}
-use Rattle.sqlite.specs.State.{State, HasCleanDisk}
+use Rattle.sqlite.specs.State.{State, HasCleanDisk, IsLive, Opens}
+use Rattle.sqlite.specs.Recovery.{Image}
+use Rattle.sqlite.specs.Start.{FindsIn}
 use Rattle.sqlite.specs.Tree.{Trees}
 use Rattle.boxes.specs.State.{State as Office}
 use Rattle.sqltables.specs.Kept.{KeepsState, LeavesStates, MayLeave, RowsKeep}
@@ -45,3 +47,7 @@ pub record MigratedOn (old new : State) : Type 0 where
   pub keeps : KeepsState new office
   pub crash : (t : Office) → MayLeave new t → t ≡ office
   pub whole : LeavesStates new
+
+-- While the disk has returned what was written, the connection is a new one, and it found what this image holds.
+abbrev pub OpensOn : Image → State → Type 0
+OpensOn image now = HasCleanDisk now → (Opens now × IsLive now) × FindsIn image now

@@ -1,7 +1,9 @@
 //! `drop init`: makes an office file.
 ghost use Rattle.std.specs.Prelude.{◌≡◌, ◌≤◌, ◌⊎◌, pos, neg_ℤ, ◌≤ℤ◌, IfErr, IfOk, IfSome, IsOk, IsTrue};
 ghost use Rattle.sqlite.specs.State.{HasCleanDisk};
+ghost use Rattle.sqlite.specs.Files.{file_state};
 ghost use Rattle.sqlite.specs.Held.{state};
+ghost use Rattle.sqlite.specs.Recovery.{Image};
 ghost use Rattle.sqlite.specs.WalFiles.{image_at};
 ghost use Rattle.sigv4.specs.Credential.{IsKeyId, IsSecret};
 ghost use Rattle.boxes.specs.FirstState.{first_state};
@@ -10,7 +12,7 @@ ghost use Rattle.sqltables.specs.Kept.{KeepsState, LeavesStates, MayLeave};
 ghost use Rattle.sqltables.specs.Schema.{s0};
 ghost use Rattle.commands.specs.Wording.{IsNumber};
 ghost use Rattle.taskwork.specs.Holding.{LeavesHeld};
-ghost use Rattle.dropoffice.specs.Working.{SparesShown};
+ghost use Rattle.dropoffice.specs.Working.{OpensOn, SparesShown};
 ghost use Rattle.taskwork.specs.Leaving.{IsCleanLeft, IsClosed, IsSpared};
 ghost use Rattle.taskwork.specs.Performing.{HasSettings, IsFirstRow, IsGivenSecret, IsSecretOf, Made, MayBeMade};
 
@@ -18,7 +20,8 @@ use crate::opening::{connect, end_work, unfit};
 use boxes::OfficeRow;
 use commands::{Argument, Fault, check_secret, read_secret_file};
 use sigv4::{Allowance, is_key_id};
-use sqlite::{Alter, Connection, FileFrom, Start};
+use sqlite::{Alter, Connection, FileFrom, FileStore, Start};
+use sqlite_disk::Disk;
 use sqlkeeper::SqlKeeper;
 use std::alloc::Global;
 use std::fs;
@@ -64,32 +67,15 @@ fn init_with<S: Start + Drop>(
         return ended_with(Err(Fault::OutOfMemory), Left::Unopened(start));
     };
     let had_log = fs::symlink_metadata(rt, log.as_str()).is_ok();
-    match make_file(rt, words.file) {
-        Ok(is_new) => {
-            let made = make_office(rt, words, secret, office, start);
-            unless_unmade(rt, words.file, log.as_str(), had_log, is_new, made)
-        }
-        Err(fault) => ended_with(Err(fault), Left::Unopened(start)),
+    let is_new = match make_file(rt, words.file) {
+        Ok(is_new) => is_new,
+        Err(fault) => return ended_with(Err(fault), Left::Unopened(start)),
+    };
+    let made = make_office(rt, words, secret, office, start);
+    if is_new && is_unmade(&made.gain) {
+        remove_made(rt, words.file, log.as_str(), had_log);
     }
-}
-
-// The same. A new file that is no office is removed.
-fn unless_unmade<S: Start + Drop>(
-    rt: &HostRuntime,
-    file: &str,
-    log: &str,
-    had_log: bool,
-    is_new: bool,
-    made: Worked<Result<(), Fault>, S, FileFrom<S>>,
-) -> Worked<Result<(), Fault>, S, FileFrom<S>>
-    ensures { (result ≡ made) ⊎ ((IsOk result.gain → ⊥) × (result.left ≡ Left.Lost)) }
-{
-    if !is_new || !is_unmade(&made.gain) {
-        return made;
-    }
-    let Worked { gain, .. } = made;
-    remove_made(rt, file, log, had_log);
-    ended_with(gain, Left::Lost)
+    made
 }
 
 // The office's settings and the secret of its clerk.
@@ -206,12 +192,26 @@ fn make_office<S: Start + Drop>(
         ⊎ ((IsOk result.gain → ⊥) × IsSpared (image_at S.Start) start (LeavesHeld (image_at S.Start) (MayBeMade words.now (image_at S.Start))) result.left) }
     ensures opened { IsOk result.gain → IsOk result.closed → IsClosed result.left }
 {
-    let conn = match connect(rt, words.file, Purpose::Change, start) {
-        Ok(conn) => conn,
-        Err((fault, left)) => return ended_with(Err(fault), left),
-    };
-    let clerk = words.clerk.as_bytes();
-    match create_over(rt.alloc(), conn, office, clerk, secret) {
+    match connect(rt, words.file, Purpose::Change, start) {
+        Ok(conn) => make_in(rt.alloc(), conn, words, secret, office),
+        Err((fault, left)) => ended_with(Err(fault), left),
+    }
+}
+
+// Makes an office in the database of a new connection, and closes it.
+fn make_in<S: Drop, D: Disk + Drop>(
+    alloc: Global,
+    conn: Connection<FileStore<D>>,
+    words: &Init<'_>,
+    secret: &[u8],
+    office: OfficeRow,
+) -> Worked<Result<(), Fault>, S, D>
+    ensures made { (image : Image) (start : S) → OpensOn image (file_state conn) → IsFirstRow words.now office secret.now → IsCleanLeft result.left
+        → Made words.now image result.left
+        ⊎ ((IsOk result.gain → ⊥) × IsSpared image start (LeavesHeld image (MayBeMade words.now image)) result.left) }
+    ensures opened { IsOk result.gain → IsOk result.closed → IsClosed result.left }
+{
+    match create_over(alloc, conn, office, words.clerk.as_bytes(), secret) {
         Ok(conn) => {
             let (closed, left) = end_work(conn, Purpose::Change);
             Worked {

@@ -1,17 +1,20 @@
 //! `drop migrate`: migrates an office file from version 1 to version 2.
 ghost use Rattle.std.specs.Prelude.{IfErr, IfOk, IsOk};
 ghost use Rattle.sqlite.specs.State.{HasCleanDisk};
+ghost use Rattle.sqlite.specs.Files.{file_state};
 ghost use Rattle.sqlite.specs.Held.{state};
+ghost use Rattle.sqlite.specs.Recovery.{Image};
 ghost use Rattle.sqlite.specs.WalFiles.{image_at};
 ghost use Rattle.sqlkeeper.specs.Versions.{IsOfficeFile};
 ghost use Rattle.taskwork.specs.Holding.{HoldsOurs};
-ghost use Rattle.dropoffice.specs.Working.{MigratedOn, SparesShown, StillSees, WasOurs};
+ghost use Rattle.dropoffice.specs.Working.{MigratedOn, OpensOn, SparesShown, StillSees, WasOurs};
 ghost use Rattle.taskwork.specs.Leaving.{IsCleanLeft, IsClosed};
 ghost use Rattle.taskwork.specs.Performing.{MayMigrate};
 
 use crate::opening::{connect, end_work, unfit};
 use commands::{Done, Fault, tell};
-use sqlite::{Alter, Connection, FileFrom, Start};
+use sqlite::{Alter, Connection, FileFrom, FileStore, Start};
+use sqlite_disk::Disk;
 use sqlkeeper::SqlKeeper;
 use std::alloc::Global;
 use std::io::Write;
@@ -32,11 +35,23 @@ pub(crate) fn do_migrate<S: Start + Drop, W: Write + Drop>(
     if let Err(fault) = require_file(rt, words.file) {
         return ended_with(failed(fault, out), Left::Unopened(start));
     }
-    let conn = match connect(rt, words.file, Purpose::Change, start) {
-        Ok(conn) => conn,
-        Err((fault, left)) => return ended_with(failed(fault, out), left),
-    };
-    match migrate_over(rt.alloc(), conn) {
+    match connect(rt, words.file, Purpose::Change, start) {
+        Ok(conn) => migrate_in(rt.alloc(), conn, out),
+        Err((fault, left)) => ended_with(failed(fault, out), left),
+    }
+}
+
+// Migrates the office of a new connection, closes it, and writes the line `done`.
+fn migrate_in<S: Drop, D: Disk + Drop, W: Write + Drop>(
+    alloc: Global,
+    conn: Connection<FileStore<D>>,
+    out: W,
+) -> Worked<Done<W>, S, D>
+    ensures ran { (image : Image) (start : S) → OpensOn image (file_state conn) → HoldsOurs image → IsCleanLeft result.left
+        → MayMigrate image start result.left W.contents (IsOk result.gain.result) out result.gain.out }
+    ensures opened { IsOk result.gain.result → IsClosed result.left }
+{
+    match migrate_over(alloc, conn) {
         Ok(conn) => {
             let (closed, left) = end_work(conn, Purpose::Change);
             ended_with(tell(closed.map_err(unclosed), out), left)

@@ -3,6 +3,7 @@ ghost use Rattle.std.specs.Prelude.{◌≡◌, ◌≢◌, ◌⊎◌, IfErr, IfOk
 ghost use Rattle.sqlite.specs.State.{HasCleanDisk};
 ghost use Rattle.sqlite.specs.Held.{state};
 ghost use Rattle.sqlite.specs.Files.{file_state, IsOpened};
+ghost use Rattle.sqlite.specs.Recovery.{Image};
 ghost use Rattle.sqlite.specs.Start.{FindsIn};
 ghost use Rattle.sqlite.specs.WalFiles.{image_at};
 ghost use Rattle.boxes.specs.State.{State};
@@ -10,7 +11,7 @@ ghost use Rattle.sqltables.specs.Kept.{KeepsState, LeavesStates};
 ghost use Rattle.taskwork.specs.Leaving.{IsCleanLeft, IsClosed, IsLeftOf, IsLooked, IsSpared, LeavesOffice, MayCrashTo};
 ghost use Rattle.taskwork.specs.Performing.{MayRun};
 ghost use Rattle.taskwork.specs.Holding.{HoldsOurs};
-ghost use Rattle.dropoffice.specs.Working.{RanOn, SparesShown, StillSees, WasOurs};
+ghost use Rattle.dropoffice.specs.Working.{OpensOn, RanOn, SparesShown, StillSees, WasOurs};
 
 use commands::{Fault, OfficeWork};
 use sqlite::{
@@ -207,10 +208,25 @@ pub(crate) fn work_over<S: Start + Drop, W: OfficeWork + Drop>(
     if let Err(fault) = require_file(rt, file) {
         return ended_with(work.refuse(fault), Left::Unopened(start));
     }
-    let conn = match connect(rt, file, purpose, start) {
-        Ok(conn) => conn,
-        Err((fault, left)) => return ended_with(work.refuse(fault), left),
-    };
+    match connect(rt, file, purpose, start) {
+        Ok(conn) => work_in(rt, conn, purpose, work),
+        Err((fault, left)) => ended_with(work.refuse(fault), left),
+    }
+}
+
+// Does the work on the office of a new connection, and ends it.
+fn work_in<S: Drop, D: Disk + Drop, W: OfficeWork + Drop>(
+    rt: &HostRuntime,
+    conn: Connection<FileStore<D>>,
+    purpose: Purpose,
+    work: W,
+) -> Worked<W::Gain, S, D>
+    ensures looked { W.idle work result.gain ⊎ (purpose ≡ Purpose.Look → IsLooked result.left) }
+    ensures closed { W.idle work result.gain
+        ⊎ (IsOk result.closed → purpose ≢ Purpose.Look → IsClosed result.left) }
+    ensures ran { (image : Image) (start : S) → OpensOn image (file_state conn) → HoldsOurs image → IsCleanLeft result.left
+        → MayRun image start result.left (W.idle work result.gain) (W.step work result.gain) }
+{
     match work_on(rt, conn, work) {
         Ok((gain, conn)) => {
             let (closed, left) = end_work(conn, purpose);

@@ -24,9 +24,13 @@ ghost use Rattle.sqlkeeper.specs.Versions.{IsOfficeFile, IsRefusedFile};
 mod rolling;
 
 use crate::applying::apply_change;
-use crate::asking;
+use crate::asking::{Question, ask};
 use crate::creating::create;
 use crate::emptying::empty_file;
+use crate::questions::{
+    BoxOf, Clerks, FileOf, HasBytes, HasLimit, KeyOf, MayUse, NextNumber, ReceiptOf, Receipts,
+    Settings, TotalsOf,
+};
 use crate::upgrading::upgrade_file;
 use boxes::{BoxRow, Change, FileRow, KeyRow, OfficeRow, ReceiptRow, Totals, law_of_changes};
 use keeper::{KeepFault, Keeper};
@@ -405,6 +409,21 @@ impl<S: Alter> SqlKeeper<S> {
     }
 }
 
+impl<S: Alter> SqlKeeper<S> {
+    ghost use Rattle.keeper.specs.Bound.{StaysBy};
+    ghost use Rattle.keeper.specs.Keeping.{Answers};
+
+    // The file's answer to this question. An error is counted.
+    fn answer<Q: Question<S>>(&mut self, question: &Q) -> Result<Q::Answer, KeepFault>
+        ensures value { Answers ⟦<SqlKeeper<S> as Keeper>⟧.means ⟦<SqlKeeper<S> as Keeper>⟧.is_honest
+            self.old self.new result (Q.says question.now) }
+        ensures rest { StaysBy ⟦<SqlKeeper<S> as Keeper>⟧ self.old self.new result }
+        ensures staged { self.new.staged ≡ self.old.staged }
+    {
+        counted(&mut self.faults, ask(&mut self.conn, question))
+    }
+}
+
 impl<S: Alter> Keeper for SqlKeeper<S> {
     ghost means = { λ k. KeepsState (state S.Store k.conn) };
 
@@ -423,41 +442,35 @@ impl<S: Alter> Keeper for SqlKeeper<S> {
     ghost has_store = { ⊤ };
 
     fn settings(&mut self) -> Result<OfficeRow, KeepFault> {
-        counted(&mut self.faults, asking::settings(&mut self.conn))
+        self.answer(&Settings)
     }
 
     fn key(&mut self, id: &[u8]) -> Result<Option<KeyRow>, KeepFault> {
         let Ok(id) = str::from_utf8(id) else {
             return Ok(None);
         };
-        counted(&mut self.faults, asking::key(&mut self.conn, id))
+        self.answer(&KeyOf { id })
     }
 
     fn may_use(&mut self, id: &[u8], in_box: &[u8]) -> Result<bool, KeepFault> {
         let Ok(id) = str::from_utf8(id) else {
             return Ok(true);
         };
-        counted(
-            &mut self.faults,
-            asking::may_use(&mut self.conn, id, in_box),
-        )
+        self.answer(&MayUse { id, in_box })
     }
 
     fn has_limit(&mut self, id: &[u8], in_box: &[u8]) -> Result<bool, KeepFault> {
         let Ok(id) = str::from_utf8(id) else {
             return Ok(false);
         };
-        counted(
-            &mut self.faults,
-            asking::has_limit(&mut self.conn, id, in_box),
-        )
+        self.answer(&HasLimit { id, in_box })
     }
 
     fn box_row(&mut self, name: &[u8]) -> Result<Option<BoxRow>, KeepFault> {
         let Ok(name) = str::from_utf8(name) else {
             return Ok(None);
         };
-        counted(&mut self.faults, asking::box_row(&mut self.conn, name))
+        self.answer(&BoxOf { name })
     }
 
     fn file(&mut self, in_box: &[u8], name: &[u8]) -> Result<Option<FileRow>, KeepFault> {
@@ -467,10 +480,12 @@ impl<S: Alter> Keeper for SqlKeeper<S> {
         let Ok(name) = str::from_utf8(name) else {
             return Ok(None);
         };
-        counted(
-            &mut self.faults,
-            asking::file(&mut self.conn, self.alloc, in_box, name),
-        )
+        let alloc = self.alloc;
+        self.answer(&FileOf {
+            alloc,
+            in_box,
+            name,
+        })
     }
 
     fn file_receipt(
@@ -484,32 +499,28 @@ impl<S: Alter> Keeper for SqlKeeper<S> {
         let Ok(name) = str::from_utf8(name) else {
             return Ok(None);
         };
-        counted(
-            &mut self.faults,
-            asking::file_receipt(&mut self.conn, in_box, name),
-        )
+        self.answer(&ReceiptOf { in_box, name })
     }
 
     fn sizes(&mut self, in_box: &[u8]) -> Result<Totals, KeepFault> {
         let Ok(name) = str::from_utf8(in_box) else {
             return Ok(Totals { used: 0, count: 0 });
         };
-        counted(&mut self.faults, asking::totals(&mut self.conn, name))
+        self.answer(&TotalsOf { name })
     }
 
     fn clerks(&mut self) -> Result<u64, KeepFault> {
-        counted(&mut self.faults, asking::clerks(&mut self.conn, self.alloc))
+        let alloc = self.alloc;
+        self.answer(&Clerks { alloc })
     }
 
     fn next_number(&mut self) -> Result<u64, KeepFault> {
-        counted(&mut self.faults, asking::next_number(&mut self.conn))
+        self.answer(&NextNumber)
     }
 
     fn receipts(&mut self, from: u64, most: usize) -> Result<Vec<ReceiptRow>, KeepFault> {
-        counted(
-            &mut self.faults,
-            asking::receipts(&mut self.conn, self.alloc, from, most),
-        )
+        let alloc = self.alloc;
+        self.answer(&Receipts { alloc, from, most })
     }
 
     fn stage_begin(&mut self) -> Result<(), KeepFault> {
@@ -532,10 +543,12 @@ impl<S: Alter> Keeper for SqlKeeper<S> {
         let Ok(name) = str::from_utf8(name) else {
             return Ok(false);
         };
-        counted(
-            &mut self.faults,
-            asking::has_bytes(&mut self.conn, in_box, name, &self.staged),
-        )
+        let question = HasBytes {
+            in_box,
+            name,
+            bytes: &self.staged,
+        };
+        counted(&mut self.faults, ask(&mut self.conn, &question))
     }
 
     fn stage_drop(&mut self) -> Result<(), KeepFault> {

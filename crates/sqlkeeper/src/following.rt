@@ -1,84 +1,74 @@
-//! Queries to walk through the office file: what comes next. Each runs in a transaction of its own, which
-//! writes nothing. It commits if there is an answer, so that a store that has shut itself down gives none.
+//! The questions of a walk through the office file: what comes next.
 
 ghost use Rattle.sigtext.specs.Bytes.{bytes_cmp};
-ghost use Rattle.sqlite.specs.Held.{state};
 ghost use Rattle.rolls.specs.Next.{text_in, IsNext, IsKey, IsBox, IsFileIn, IsLimit};
-ghost use Rattle.sqlkeeper.specs.Asking.{AnswersOf, LeavesOffice};
 
-use sqlite::{Alter, Connection, Error, ErrorCode};
+use crate::asking::Question;
+use sqlite::{Alter, Error, Transaction};
 use sqlquestions::following;
 
 /// The id of the first key after this text.
-pub(crate) fn key_after<S: Alter>(
-    conn: &mut Connection<S>,
-    after: &str,
-) -> Result<Option<Vec<u8>>, Error>
-    ensures found { AnswersOf (state S.Store conn.old) (state S.Store conn.new) result
-        (λ s found. IsNext bytes_cmp (IsKey s) after.now (text_in found)) }
-    ensures rest { LeavesOffice (state S.Store conn.old) (state S.Store conn.new) result }
-{
-    if !conn.is_autocommit() {
-        return Err(Error::SqliteFailure(ErrorCode::TransactionState));
+#[derive(Drop)]
+pub(crate) struct KeyAfter<'q> {
+    pub(crate) after: &'q str,
+}
+
+impl<'q, S: Alter> Question<S> for KeyAfter<'q> {
+    type Answer = Option<Vec<u8>>;
+
+    ghost says = { λ q s found. IsNext bytes_cmp (IsKey s) q.after.now (text_in found) };
+
+    fn put(&self, tx: &mut Transaction<'_, S>) -> Result<Option<Vec<u8>>, Error> {
+        following::key_after(tx, self.after)
     }
-    let mut tx = conn.transaction();
-    let found = following::key_after(&mut tx, after)?;
-    tx.commit()?;
-    Ok(found)
 }
 
 /// The name of the first box after this text.
-pub(crate) fn box_after<S: Alter>(
-    conn: &mut Connection<S>,
-    after: &str,
-) -> Result<Option<Vec<u8>>, Error>
-    ensures found { AnswersOf (state S.Store conn.old) (state S.Store conn.new) result
-        (λ s found. IsNext bytes_cmp (IsBox s) after.now (text_in found)) }
-    ensures rest { LeavesOffice (state S.Store conn.old) (state S.Store conn.new) result }
-{
-    if !conn.is_autocommit() {
-        return Err(Error::SqliteFailure(ErrorCode::TransactionState));
+#[derive(Drop)]
+pub(crate) struct BoxAfter<'q> {
+    pub(crate) after: &'q str,
+}
+
+impl<'q, S: Alter> Question<S> for BoxAfter<'q> {
+    type Answer = Option<Vec<u8>>;
+
+    ghost says = { λ q s found. IsNext bytes_cmp (IsBox s) q.after.now (text_in found) };
+
+    fn put(&self, tx: &mut Transaction<'_, S>) -> Result<Option<Vec<u8>>, Error> {
+        following::box_after(tx, self.after)
     }
-    let mut tx = conn.transaction();
-    let found = following::box_after(&mut tx, after)?;
-    tx.commit()?;
-    Ok(found)
 }
 
 /// The name of the first file of this box after this text.
-pub(crate) fn file_after<S: Alter>(
-    conn: &mut Connection<S>,
-    in_box: &str,
-    after: &str,
-) -> Result<Option<Vec<u8>>, Error>
-    ensures found { AnswersOf (state S.Store conn.old) (state S.Store conn.new) result
-        (λ s found. IsNext bytes_cmp (IsFileIn s in_box.now) after.now (text_in found)) }
-    ensures rest { LeavesOffice (state S.Store conn.old) (state S.Store conn.new) result }
-{
-    if !conn.is_autocommit() {
-        return Err(Error::SqliteFailure(ErrorCode::TransactionState));
+#[derive(Drop)]
+pub(crate) struct FileAfter<'q> {
+    pub(crate) in_box: &'q str,
+    pub(crate) after: &'q str,
+}
+
+impl<'q, S: Alter> Question<S> for FileAfter<'q> {
+    type Answer = Option<Vec<u8>>;
+
+    ghost says = { λ q s found. IsNext bytes_cmp (IsFileIn s q.in_box.now) q.after.now (text_in found) };
+
+    fn put(&self, tx: &mut Transaction<'_, S>) -> Result<Option<Vec<u8>>, Error> {
+        following::file_after(tx, self.in_box, self.after)
     }
-    let mut tx = conn.transaction();
-    let found = following::file_after(&mut tx, in_box, after)?;
-    tx.commit()?;
-    Ok(found)
 }
 
 /// The name of the first box after this text among those that the key with this id is limited to.
-pub(crate) fn limit_after<S: Alter>(
-    conn: &mut Connection<S>,
-    id: &str,
-    after: &str,
-) -> Result<Option<Vec<u8>>, Error>
-    ensures found { AnswersOf (state S.Store conn.old) (state S.Store conn.new) result
-        (λ s found. IsNext bytes_cmp (IsLimit s id.now) after.now (text_in found)) }
-    ensures rest { LeavesOffice (state S.Store conn.old) (state S.Store conn.new) result }
-{
-    if !conn.is_autocommit() {
-        return Err(Error::SqliteFailure(ErrorCode::TransactionState));
+#[derive(Drop)]
+pub(crate) struct LimitAfter<'q> {
+    pub(crate) id: &'q str,
+    pub(crate) after: &'q str,
+}
+
+impl<'q, S: Alter> Question<S> for LimitAfter<'q> {
+    type Answer = Option<Vec<u8>>;
+
+    ghost says = { λ q s found. IsNext bytes_cmp (IsLimit s q.id.now) q.after.now (text_in found) };
+
+    fn put(&self, tx: &mut Transaction<'_, S>) -> Result<Option<Vec<u8>>, Error> {
+        following::limit_after(tx, self.id, self.after)
     }
-    let mut tx = conn.transaction();
-    let found = following::limit_after(&mut tx, id, after)?;
-    tx.commit()?;
-    Ok(found)
 }

@@ -8,6 +8,7 @@ mod creating;
 mod emptying;
 mod file_keeper;
 mod following;
+mod questions;
 mod upgrading;
 
 pub use file_keeper::{OpenFault, SqlKeeper};

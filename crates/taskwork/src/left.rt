@@ -10,7 +10,7 @@ use sqlite_disk::Disk;
 pub enum Left<S, D: Disk> {
     /// What stood for the files, which were not opened.
     Unopened(S),
-    /// Nothing: the system did not open the files, or a file that was just made is gone again.
+    /// Nothing: the system did not open the files.
     Lost,
     /// The files, of which the engine refused to open a database.
     Refused(Leftover<D>),

@@ -3,8 +3,8 @@
 ghost use Rattle.std.specs.Prelude.{◌≡◌, IfOk, IfErr, IsUtf8};
 ghost use Rattle.sigtext.specs.Counts.{CountsErrors};
 
-use super::{SqlKeeper, counted};
-use crate::following;
+use super::SqlKeeper;
+use crate::following::{BoxAfter, FileAfter, KeyAfter, LimitAfter};
 use keeper::KeepFault;
 use rolls::Rolls;
 use sqlite::Alter;
@@ -29,35 +29,23 @@ fn counted_text<'a>(faults: &mut u64, bytes: &'a [u8]) -> Result<&'a str, KeepFa
 impl<S: Alter> Rolls for SqlKeeper<S> {
     fn key_after(&mut self, after: &[u8]) -> Result<Option<Vec<u8>>, KeepFault> {
         let after = counted_text(&mut self.faults, after)?;
-        counted(
-            &mut self.faults,
-            following::key_after(&mut self.conn, after),
-        )
+        self.answer(&KeyAfter { after })
     }
 
     fn box_after(&mut self, after: &[u8]) -> Result<Option<Vec<u8>>, KeepFault> {
         let after = counted_text(&mut self.faults, after)?;
-        counted(
-            &mut self.faults,
-            following::box_after(&mut self.conn, after),
-        )
+        self.answer(&BoxAfter { after })
     }
 
     fn file_after(&mut self, in_box: &[u8], after: &[u8]) -> Result<Option<Vec<u8>>, KeepFault> {
         let in_box = counted_text(&mut self.faults, in_box)?;
         let after = counted_text(&mut self.faults, after)?;
-        counted(
-            &mut self.faults,
-            following::file_after(&mut self.conn, in_box, after),
-        )
+        self.answer(&FileAfter { in_box, after })
     }
 
     fn limit_after(&mut self, id: &[u8], after: &[u8]) -> Result<Option<Vec<u8>>, KeepFault> {
         let id = counted_text(&mut self.faults, id)?;
         let after = counted_text(&mut self.faults, after)?;
-        counted(
-            &mut self.faults,
-            following::limit_after(&mut self.conn, id, after),
-        )
+        self.answer(&LimitAfter { id, after })
     }
 }

@@ -1,6 +1,4 @@
-use Rattle.sqlite.specs.Held.{state}
 use Rattle.boxes.specs.State.{Place}
-use Rattle.sqlkeeper.proofs.Stays.{stays}
 use Rattle.sqlkeeper.proofs.NotText.{no_file_in, no_file_named, no_receipt_at}
 use Rattle.sqlkeeper.proofs.file_keeper.SqlKeeperKeeper.file_receipt.Goals as goal
 
@@ -11,7 +9,3 @@ returns-in_default-clause-value g c s keeps sound clean =
 pub returns-in_default-from_utf8-clause-value : goal.returns-in_default-from_utf8-clause-value
 returns-in_default-from_utf8-clause-value g c s keeps sound clean =
     let place : Place = record { box = c.args.in_box.now; name = c.args.name.now } in no_receipt_at s place (no_file_named s sound place c.in_default-from_utf8.ensures.cases.0)
-
-pub returns-clause-rest : goal.returns-clause-rest
-returns-clause-rest g c =
-    stays (λ k. state g.S.Store k.conn) (λ k. k.faults) c.args.self.now (record { conn = c.file_receipt.new.conn; staged = c.args.self.now.staged; faults = c.counted.new.faults; alloc = c.args.self.now.alloc }) c.file_receipt.result c.counted.result c.counted.ensures.value c.file_receipt.ensures.rest c.counted.ensures.count c.counted.ensures.room

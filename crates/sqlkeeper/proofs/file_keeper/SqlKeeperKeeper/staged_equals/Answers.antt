@@ -21,11 +21,11 @@ returns-in_default-from_utf8-clause-value g c staged is s keeps sound clean =
 pub returns-clause-value : goal.returns-clause-value
 returns-clause-value g c staged is s keeps sound clean =
     let place : Place = record { box = c.args.in_box.now; name = c.args.name.now } in
-    let there = subst₂ (λ (b n : List ℕ). IfOk c.has_bytes.result (λ has. IsTrue has ↔ HasBytes s (record { box = b; name = n }) (held c.args.self.now.staged))) c.in-Ok.ensures.cases.0 c.in-Ok-from_utf8.ensures.cases.0
-    (c.has_bytes.ensures.found s keeps.means sound clean) in
-    let found = subst (λ (l : List ℕ). IfOk c.has_bytes.result (λ has. IsTrue has ↔ HasBytes s place l)) is there in
-    carried (λ has. IsTrue has ↔ HasBytes s place staged) c.has_bytes.result c.counted.result c.counted.ensures.value found
+    let there = subst₂ (λ (b n : List ℕ). IfOk c.ask.result (λ has. IsTrue has ↔ HasBytes s (record { box = b; name = n }) (held c.args.self.now.staged))) c.in-Ok.ensures.cases.0 c.in-Ok-from_utf8.ensures.cases.0
+    (c.ask.ensures.found s keeps.means sound clean) in
+    let found = subst (λ (l : List ℕ). IfOk c.ask.result (λ has. IsTrue has ↔ HasBytes s place l)) is there in
+    carried (λ has. IsTrue has ↔ HasBytes s place staged) c.ask.result c.counted.result c.counted.ensures.value found
 
 pub returns-clause-rest : goal.returns-clause-rest
 returns-clause-rest g c =
-    stays (λ k. state g.S.Store k.conn) (λ k. k.faults) c.args.self.now (record { conn = c.has_bytes.new.conn; staged = c.args.self.now.staged; faults = c.counted.new.faults; alloc = c.args.self.now.alloc }) c.has_bytes.result c.counted.result c.counted.ensures.value c.has_bytes.ensures.rest c.counted.ensures.count c.counted.ensures.room
+    stays (λ k. state g.S.Store k.conn) (λ k. k.faults) c.args.self.now (record { conn = c.ask.new.conn; staged = c.args.self.now.staged; faults = c.counted.new.faults; alloc = c.args.self.now.alloc }) c.ask.result c.counted.result c.counted.ensures.value c.ask.ensures.rest c.counted.ensures.count c.counted.ensures.room

@@ -1,0 +1,13 @@
+use Rattle.std.proofs.lemmas.Result.{IfOk-weaker}
+use Rattle.rolls.specs.Next.{text_in}
+use Rattle.sqltables.specs.Schema.{v2, second_version}
+use Rattle.sqltables.specs.Tables.{tables_of}
+use Rattle.sqlkeeper.proofs.NextTexts.{next_box}
+use Rattle.sqlkeeper.proofs.following.BoxAfterQuestion.put.Goals as goal
+
+pub returns-clause-found : goal.returns-clause-found
+returns-clause-found g c s pends sound inside clean =
+    IfOk-weaker c.box_after.result _ _ (λ found h. next_box s c.args.self.now.after.now (text_in found) h) (c.box_after.ensures.found v2 (tables_of s) second_version pends inside clean)
+
+pub returns-clause-still : goal.returns-clause-still
+returns-clause-still g c s pends = c.box_after.ensures.still v2 (tables_of s) second_version pends

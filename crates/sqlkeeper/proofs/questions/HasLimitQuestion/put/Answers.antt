@@ -1,0 +1,5 @@
+use Rattle.sqltables.specs.Tables.{tables_of}
+use Rattle.sqlkeeper.proofs.questions.HasLimitQuestion.put.Goals as goal
+
+pub returns-clause-still : goal.returns-clause-still
+returns-clause-still g c s pends = c.has_limit.ensures.still (tables_of s) pends
