@@ -12,7 +12,7 @@ ghost use Rattle.sqltables.specs.Kept.{KeepsState, LeavesStates, MayLeave};
 ghost use Rattle.sqltables.specs.Schema.{s0};
 ghost use Rattle.commands.specs.Wording.{IsNumber};
 ghost use Rattle.taskwork.specs.Holding.{LeavesHeld};
-ghost use Rattle.dropoffice.specs.Working.{OpensOn, SparesShown};
+ghost use Rattle.dropoffice.specs.Working.{MakesOn, OpensOn};
 ghost use Rattle.taskwork.specs.Leaving.{IsCleanLeft, IsClosed, IsSpared};
 ghost use Rattle.taskwork.specs.Performing.{HasSettings, IsFirstRow, IsGivenSecret, IsSecretOf, Made, MayBeMade};
 
@@ -232,17 +232,8 @@ fn create_over<S: Alter + Drop>(
     clerk: &[u8],
     secret: &[u8],
 ) -> Result<Connection<S>, (Fault, Connection<S>)>
-    ensures bare { IfOk result (λ made. (state S.Store conn).now.schema ≡ s0) }
-    ensures made { neg_ℤ (pos 840) ≤ℤ office.east → office.east ≤ℤ pos 840 → IsKeyId clerk.now → IsSecret secret.now
-        → IfOk result (λ made. HasCleanDisk (state S.Store made) → HasCleanDisk (state S.Store conn)
-        × KeepsState (state S.Store made) (first_state office.east office.allowance clerk.now secret.now)
-        × LeavesStates (state S.Store made)
-        × ((t : State) → MayLeave (state S.Store made) t
-        → t ≡ first_state office.east office.allowance clerk.now secret.now)) }
-    ensures spared { neg_ℤ (pos 840) ≤ℤ office.east → office.east ≤ℤ pos 840 → IsKeyId clerk.now → IsSecret secret.now
-        → IfErr result (λ r. SparesShown (state S.Store conn) (state S.Store r.1)
-        (λ t. ((state S.Store conn).now.schema ≡ s0)
-        × (t ≡ first_state office.east office.allowance clerk.now secret.now))) }
+    ensures { neg_ℤ (pos 840) ≤ℤ office.east → office.east ≤ℤ pos 840 → IsKeyId clerk.now → IsSecret secret.now
+        → MakesOn (state S.Store) conn (first_state office.east office.allowance clerk.now secret.now) result }
 {
     match SqlKeeper::create(alloc, conn, office, clerk, secret) {
         Ok(keeper) => Ok(keeper.close()),

@@ -7,7 +7,7 @@ ghost use Rattle.sqlite.specs.Recovery.{Image};
 ghost use Rattle.sqlite.specs.WalFiles.{image_at};
 ghost use Rattle.sqlkeeper.specs.Versions.{IsOfficeFile};
 ghost use Rattle.taskwork.specs.Holding.{HoldsOurs};
-ghost use Rattle.dropoffice.specs.Working.{MigratedOn, OpensOn, SparesShown, StillSees, WasOurs};
+ghost use Rattle.dropoffice.specs.Working.{MigratesOn, OpensOn};
 ghost use Rattle.taskwork.specs.Leaving.{IsCleanLeft, IsClosed};
 ghost use Rattle.taskwork.specs.Performing.{MayMigrate};
 
@@ -65,11 +65,7 @@ fn migrate_over<S: Alter + Drop>(
     alloc: Global,
     conn: Connection<S>,
 ) -> Result<Connection<S>, (Fault, Connection<S>)>
-    ensures made { WasOurs (state S.Store conn) → IfOk result (λ made. HasCleanDisk (state S.Store made)
-        → MigratedOn (state S.Store conn) (state S.Store made)) }
-    ensures looked { IfErr result (λ r. StillSees (state S.Store conn) (state S.Store r.1)) }
-    ensures spared { WasOurs (state S.Store conn) → IfErr result (λ r. SparesShown (state S.Store conn)
-        (state S.Store r.1) (IsOfficeFile (state S.Store conn))) }
+    ensures { MigratesOn (state S.Store) conn result }
 {
     match SqlKeeper::migrate(alloc, conn) {
         Ok(keeper) => Ok(keeper.close()),

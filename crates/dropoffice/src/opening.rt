@@ -11,7 +11,7 @@ ghost use Rattle.sqltables.specs.Kept.{KeepsState, LeavesStates};
 ghost use Rattle.taskwork.specs.Leaving.{IsCleanLeft, IsClosed, IsLeftOf, IsLooked, IsSpared, LeavesOffice, MayCrashTo};
 ghost use Rattle.taskwork.specs.Performing.{MayRun};
 ghost use Rattle.taskwork.specs.Holding.{HoldsOurs};
-ghost use Rattle.dropoffice.specs.Working.{OpensOn, RanOn, SparesShown, StillSees, WasOurs};
+ghost use Rattle.dropoffice.specs.Working.{OpensOn, WorksOn};
 
 use commands::{Fault, OfficeWork};
 use sqlite::{
@@ -139,12 +139,8 @@ fn work_on<S: Alter + Drop, W: OfficeWork + Drop>(
     conn: Connection<S>,
     work: W,
 ) -> Result<(W::Gain, Connection<S>), (W::Gain, Connection<S>)>
-    ensures ran { WasOurs (state S.Store conn) → IfOk result (λ r. HasCleanDisk (state S.Store r.1)
-        → RanOn (state S.Store conn) (state S.Store r.1) (W.step work r.0)) }
+    ensures works { WorksOn (state S.Store) conn (W.step work) result }
     ensures idle { IfErr result (λ r. W.idle work r.0) }
-    ensures looked { IfErr result (λ r. StillSees (state S.Store conn) (state S.Store r.1)) }
-    ensures spared { WasOurs (state S.Store conn) → IfErr result (λ r. SparesShown (state S.Store conn)
-        (state S.Store r.1) (KeepsState (state S.Store conn))) }
 {
     match SqlKeeper::open(rt.alloc(), conn) {
         Ok(keeper) => {

@@ -24,11 +24,11 @@ returns-in-Ok-clause-made g c image start on first clean =
     let end = c.end_work-closed.ensures in
     let id = c.as_bytes.ensures.value in
     let key = subst IsKeyId (sym id) first.settings.clerk in
-    let (early, keeps, whole, alone) = c.in-Ok.ensures.made first.settings.from first.settings.to key (is_secret c.args.words.now.secret c.args.secret.now first.secret) (end.clean clean) in
+    let made = (c.in-Ok.ensures first.settings.from first.settings.to key (is_secret c.args.words.now.secret c.args.secret.now first.secret)).made (end.clean clean) in
     inl (made_over image c.end_work-closed.result.1 old new (λ was. (on was).0) (λ was. (on was).1) (end.leaves clean) (end.crash clean)
-    c.args.words.now c.args.office c.args.secret.now first early c.in-Ok.ensures.bare
-    (subst (λ (clerk : List ℕ). KeepsState new (first_state c.args.office.east c.args.office.allowance clerk c.args.secret.now)) id keeps) whole
-    (subst (λ (clerk : List ℕ). (t : Office) → MayLeave new t → t ≡ first_state c.args.office.east c.args.office.allowance clerk c.args.secret.now) id alone))
+    c.args.words.now c.args.office c.args.secret.now first made.early made.bare
+    (subst (λ (clerk : List ℕ). KeepsState new (first_state c.args.office.east c.args.office.allowance clerk c.args.secret.now)) id made.keeps) made.whole
+    (subst (λ (clerk : List ℕ). (t : Office) → MayLeave new t → t ≡ first_state c.args.office.east c.args.office.allowance clerk c.args.secret.now) id made.alone))
 
 pub returns-in-Err-clause-made : goal.returns-in-Err-clause-made
 returns-in-Err-clause-made g c image start on first =
@@ -38,7 +38,7 @@ returns-in-Err-clause-made g c image start on first =
     let key = subst IsKeyId (sym id) first.settings.clerk in
     let office = c.args.office in
     let Now : Office → Type 0 = λ t. (old.now.schema ≡ s0) × (t ≡ first_state office.east office.allowance c.as_bytes.result.now c.args.secret.now) in
-    let spared = c.in-Err.ensures.spared first.settings.from first.settings.to key (is_secret c.args.words.now.secret c.args.secret.now first.secret) in
+    let spared = (c.in-Err.ensures first.settings.from first.settings.to key (is_secret c.args.words.now.secret c.args.secret.now first.secret)).spared in
     rw (c.ended_with.ensures.gain, c.ended_with.ensures.left)
     (λ clean. inr (
       false≢true,

@@ -18,7 +18,7 @@ returns-in-Ok-clause-ran g c image start on ours clean =
     let new = file_state c.in-Ok.conn in
     let was = was_ours image old (λ was. (on was).0) (λ was. (on was).1) ours in
     let end = c.end_work-closed.ensures in
-    inl (ran_over image c.end_work-closed.result.1 old new (λ was. (on was).0) (λ was. (on was).1) (end.leaves clean) (end.crash clean) (c.in-Ok.ensures.ran was (end.clean clean)))
+    inl (ran_over image c.end_work-closed.result.1 old new (λ was. (on was).0) (λ was. (on was).1) (end.leaves clean) (end.crash clean) (c.in-Ok.ensures.works.ran was (end.clean clean)))
 
 pub returns-in-Err-clause-ran : goal.returns-in-Err-clause-ran
 returns-in-Err-clause-ran g c image start on ours =
@@ -26,4 +26,4 @@ returns-in-Err-clause-ran g c image start on ours =
     let new = file_state c.in-Err.conn in
     let failed = c.in-Err.ensures in
     rw (c.ended_with.ensures.gain, c.ended_with.ensures.left)
-    (λ clean. inr (failed.idle, shows_held image old (λ was. (on was).0) (λ was. (on was).1) new (KeepsState old) (HoldsState image) (held image old (λ was. (on was).0) (λ was. (on was).1)) failed.looked (failed.spared (was_ours image old (λ was. (on was).0) (λ was. (on was).1) ours)) clean))
+    (λ clean. inr (failed.idle, shows_held image old (λ was. (on was).0) (λ was. (on was).1) new (KeepsState old) (HoldsState image) (held image old (λ was. (on was).0) (λ was. (on was).1)) failed.works.looked (failed.works.spared (was_ours image old (λ was. (on was).0) (λ was. (on was).1) ours)) clean))
