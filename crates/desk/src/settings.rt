@@ -18,7 +18,7 @@ use sigtext::cut;
 use std::alloc::{AllocError, Global};
 
 /// The words of a box's settings. `rule` holds everything after the mode.
-#[derive(Clone, Copy, Debug)]
+#[derive(Clone, Copy)]
 pub(crate) struct SettingsWords<'a> {
     pub(crate) opens: &'a [u8],
     pub(crate) closes: &'a [u8],

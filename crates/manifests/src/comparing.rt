@@ -39,7 +39,7 @@ const MOST_NUMBER_DIGITS: usize = 10;
 const MOST_LENGTH_DIGITS: usize = 7;
 
 /// How a manifest's entry compares with the files of the office.
-#[derive(Clone, Copy, Debug, PartialEq, Eq)]
+#[derive(Clone, Copy)]
 pub(crate) enum Comparison {
     /// The file is as the manifest says.
     Standing,

@@ -14,7 +14,7 @@ use std::io::{ErrorKind, Read, Write};
 use wire::{Gathered, Gathering, Outbox, Room, Sending};
 
 /// An action on a connection.
-#[derive(Clone, Copy, Debug, PartialEq, Eq)]
+#[derive(Clone, Copy)]
 pub(crate) enum Deed {
     /// Reads at most this many bytes ahead.
     Gather(usize),

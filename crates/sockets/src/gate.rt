@@ -14,7 +14,7 @@ use std::io::{ErrorKind, Read, Write};
 use wire::{Gathered, Outbox};
 
 /// The result of asking for a connection.
-#[derive(Clone, Copy, Debug, PartialEq, Eq)]
+#[derive(Clone, Copy)]
 pub(crate) enum Call {
     /// A connection was accepted and waits to be let in.
     Came,
@@ -27,7 +27,7 @@ pub(crate) enum Call {
 }
 
 /// The result of letting a connection in.
-#[derive(Clone, Copy, Debug, PartialEq, Eq)]
+#[derive(Clone, Copy)]
 pub(crate) enum Entry {
     /// It came into the slot at this index.
     In(usize),
@@ -38,7 +38,7 @@ pub(crate) enum Entry {
 }
 
 /// Which connections may still come.
-#[derive(Clone, Copy, Debug, PartialEq, Eq)]
+#[derive(Clone, Copy)]
 pub(crate) struct Coming {
     /// An accepted connection waits to be let in.
     pub(crate) has_guest: bool,

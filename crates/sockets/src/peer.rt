@@ -11,7 +11,7 @@ pub(crate) const BODY_STEP: usize = 65_536;
 const LAST_SECONDS: u64 = 1;
 
 /// The phase of a connection.
-#[derive(Clone, Copy, Debug, PartialEq, Eq)]
+#[derive(Clone, Copy, PartialEq, Eq)]
 pub(crate) enum Phase {
     /// There is no connection.
     Free,
@@ -58,7 +58,7 @@ impl Phase {
 }
 
 /// The state of a connection that is stored besides its slot.
-#[derive(Clone, Copy, Debug)]
+#[derive(Clone, Copy)]
 pub(crate) struct Peer {
     /// The phase.
     pub(crate) phase: Phase,

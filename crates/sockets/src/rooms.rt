@@ -13,7 +13,7 @@ pub(crate) const OWN_ROOM: usize = 16_384;
 const SHORTER_SECONDS: u64 = 5;
 
 /// A slot that waits for room.
-#[derive(Clone, Copy, Debug)]
+#[derive(Clone, Copy)]
 struct Waiting {
     index: usize,
     /// The length of its message in bytes.

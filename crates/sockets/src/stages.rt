@@ -23,7 +23,7 @@ const MOST_READS: usize = 64;
 const LOOK_MILLIS: u64 = 100;
 
 /// The stage of the round.
-#[derive(Clone, Copy, Debug, PartialEq, Eq)]
+#[derive(Clone, Copy)]
 pub(crate) enum Stage {
     /// Gives the turns of this round.
     Turns,
@@ -40,7 +40,7 @@ pub(crate) enum Stage {
 }
 
 /// An action on the connection in a slot.
-#[derive(Clone, Copy, Debug, PartialEq, Eq)]
+#[derive(Clone, Copy)]
 pub(crate) struct Task {
     pub(crate) index: usize,
     pub(crate) deed: Deed,
