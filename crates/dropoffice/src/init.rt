@@ -11,10 +11,9 @@ ghost use Rattle.boxes.specs.State.{State};
 ghost use Rattle.sqltables.specs.Kept.{KeepsState, LeavesStates, MayLeave};
 ghost use Rattle.sqltables.specs.Schema.{s0};
 ghost use Rattle.commands.specs.Wording.{IsNumber};
-ghost use Rattle.taskwork.specs.Holding.{LeavesHeld};
 ghost use Rattle.dropoffice.specs.Working.{MakesOn, OpensOn};
-ghost use Rattle.taskwork.specs.Leaving.{IsCleanLeft, IsClosed, IsSpared};
-ghost use Rattle.taskwork.specs.Performing.{HasSettings, IsFirstRow, IsGivenSecret, IsSecretOf, Made, MayBeMade};
+ghost use Rattle.taskwork.specs.Leaving.{IsCleanLeft, IsClosed};
+ghost use Rattle.taskwork.specs.Performing.{HasSettings, IsFirstRow, IsGivenSecret, IsSecretOf, MayMake};
 
 use crate::opening::{connect, end_work, unfit};
 use boxes::OfficeRow;
@@ -40,8 +39,8 @@ pub(crate) fn do_init<S: Start + Drop>(
     words: &Init<'_>,
     start: S,
 ) -> Worked<Result<(), Fault>, S, FileFrom<S>>
-    ensures made { IsCleanLeft result.left → Made words.now (image_at S.Start) result.left
-        ⊎ ((IsOk result.gain → ⊥) × IsSpared (image_at S.Start) start (LeavesHeld (image_at S.Start) (MayBeMade words.now (image_at S.Start))) result.left) }
+    ensures made { IsCleanLeft result.left
+        → MayMake words.now (image_at S.Start) start result.left (IsOk result.gain) }
     ensures opened { IsOk result.gain → IsOk result.closed → IsClosed result.left }
 {
     match read_words(rt, words) {
@@ -59,8 +58,7 @@ fn init_with<S: Start + Drop>(
     start: S,
 ) -> Worked<Result<(), Fault>, S, FileFrom<S>>
     ensures made { IsFirstRow words.now office secret.now → IsCleanLeft result.left
-        → Made words.now (image_at S.Start) result.left
-        ⊎ ((IsOk result.gain → ⊥) × IsSpared (image_at S.Start) start (LeavesHeld (image_at S.Start) (MayBeMade words.now (image_at S.Start))) result.left) }
+        → MayMake words.now (image_at S.Start) start result.left (IsOk result.gain) }
     ensures opened { IsOk result.gain → IsOk result.closed → IsClosed result.left }
 {
     let Ok(log) = format!(in rt.alloc(); "{}-wal", words.file) else {
@@ -188,8 +186,7 @@ fn make_office<S: Start + Drop>(
     start: S,
 ) -> Worked<Result<(), Fault>, S, FileFrom<S>>
     ensures made { IsFirstRow words.now office secret.now → IsCleanLeft result.left
-        → Made words.now (image_at S.Start) result.left
-        ⊎ ((IsOk result.gain → ⊥) × IsSpared (image_at S.Start) start (LeavesHeld (image_at S.Start) (MayBeMade words.now (image_at S.Start))) result.left) }
+        → MayMake words.now (image_at S.Start) start result.left (IsOk result.gain) }
     ensures opened { IsOk result.gain → IsOk result.closed → IsClosed result.left }
 {
     match connect(rt, words.file, Purpose::Change, start) {
@@ -207,8 +204,7 @@ fn make_in<S: Drop, D: Disk + Drop>(
     office: OfficeRow,
 ) -> Worked<Result<(), Fault>, S, D>
     ensures made { (image : Image) (start : S) → OpensOn image (file_state conn) → IsFirstRow words.now office secret.now → IsCleanLeft result.left
-        → Made words.now image result.left
-        ⊎ ((IsOk result.gain → ⊥) × IsSpared image start (LeavesHeld image (MayBeMade words.now image)) result.left) }
+        → MayMake words.now image start result.left (IsOk result.gain) }
     ensures opened { IsOk result.gain → IsOk result.closed → IsClosed result.left }
 {
     match create_over(alloc, conn, office, words.clerk.as_bytes(), secret) {

@@ -87,7 +87,10 @@ impl<W: Drop, N: Drop, L: Drop, E: Drop, C: Drop, S: Drop, D: Disk + Drop> Perfo
     pub fn into_status(self) -> u8
         ensures { result ≡ self.status }
     {
-        self.status
+        let status = self.status;
+        // A call drops it, so that the proof does not drop each of its fields.
+        drop(self);
+        status
     }
 }
 

@@ -144,6 +144,10 @@ pub record Made {F D : Type 0} {g : disk.Ghosts D} (words : Init) (image : Image
   pub means : LeavesOffice rest office
   pub crash : MayCrashTo rest (λ t. t ≡ office)
 
+-- the office was made, or it was not, and what is left of the files was spared, or leaves the first state after a crash
+abbrev pub MayMake : {F D : Type 0} {g : disk.Ghosts D} → Init → Image → F → Left F D g → Type 0 → Type 0
+MayMake words image start rest Done = Made words image rest ⊎ ((Done → ⊥) × IsSpared image start (LeavesHeld image (MayBeMade words image)) rest)
+
 -- ---- the whole program
 
 -- the file names no office: `key:` and a file with a secret
@@ -163,8 +167,7 @@ module _ {F D W N L S E C : Type 0} {g : disk.Ghosts D} (listens : SocketAddrV4 
   -- What the task did to the files, which held this image, and what it wrote. start: what stood for the files; outside: what would
   -- listen.
   abbrev pub Performs : Task → Image → F → Left F D g → Type 0 → W → Option W → N → Ending N L E C → Type 0
-  Performs (task.Init words) image start rest Done old new outside ending =
-      (new ≡ Some old) × (Made words image rest ⊎ ((Done → ⊥) × IsSpared image start (LeavesHeld image (MayBeMade words image)) rest))
+  Performs (task.Init words) image start rest Done old new outside ending = (new ≡ Some old) × MayMake words image start rest Done
   Performs (task.Desk words) image start rest Done old new outside ending = MayRun image start rest (HandsBack Done old new) (Commands input words written Done old new)
   Performs (task.Link words) image start rest Done old new outside ending = Unless (IsKeyFile words.file.now) (OpensNone start rest) (MayRun image start rest (Done → ⊥) Looks)
   Performs (task.Links words) image start rest Done old new outside ending = Unless (IsKeyFile words.file.now) (OpensNone start rest) (MayRun image start rest (Done → ⊥) Looks)

@@ -1,9 +1,9 @@
 //! What the program asks of an engine for office files.
 ghost use Rattle.std.specs.Prelude.{◌≡◌, ◌≢◌, ◌⊎◌, IsOk};
 ghost use Rattle.sqlite.specs.WalFiles.{image_at};
-ghost use Rattle.taskwork.specs.Holding.{HoldsOurs, LeavesHeld};
-ghost use Rattle.taskwork.specs.Leaving.{IsCleanLeft, IsClosed, IsLooked, IsSpared};
-ghost use Rattle.taskwork.specs.Performing.{Made, MayBeMade, MayMigrate, MayRun};
+ghost use Rattle.taskwork.specs.Holding.{HoldsOurs};
+ghost use Rattle.taskwork.specs.Leaving.{IsCleanLeft, IsClosed, IsLooked};
+ghost use Rattle.taskwork.specs.Performing.{MayMake, MayMigrate, MayRun};
 
 use crate::left::Worked;
 use commands::{Done, Fault, OfficeWork};
@@ -46,8 +46,8 @@ pub trait OfficeFiles {
         words: &Init<'_>,
         start: S,
     ) -> Worked<Result<(), Fault>, S, FileFrom<S>>
-        ensures made { IsCleanLeft result.left → Made words.now (image_at S.Start) result.left
-            ⊎ ((IsOk result.gain → ⊥) × IsSpared (image_at S.Start) start (LeavesHeld (image_at S.Start) (MayBeMade words.now (image_at S.Start))) result.left) }
+        ensures made { IsCleanLeft result.left
+            → MayMake words.now (image_at S.Start) start result.left (IsOk result.gain) }
         ensures opened { IsOk result.gain → IsOk result.closed → IsClosed result.left };
 
     /// Migrates an office file to version 2, and writes the line `done` to `out`. A file of version 2 stays unchanged.
