@@ -1,10 +1,10 @@
 -- What the task and the kinds of faults tell about the secrets of init.
-use Rattle.std.proofs.Common.{◌≡◌, ◌⊎◌, inl, inr, ◌∙◌, ℕ, eqb, refl, true, false, sym, ap, subst, List, [], slice_index, Option, Some, None, is_some, Result, Ok, Err, IfOk, IsErrAnd, MatchResult, codes}
+use Rattle.std.proofs.Common.{◌≡◌, ◌⊎◌, inl, inr, ◌∙◌, ℕ, eqb, refl, true, false, sym, ap, subst, List, [], slice_index, Option, Some, None, is_some, Result, Ok, Err, IfErr, IfOk, IsErrAnd, MatchResult, codes}
 use Rattle.std.specs.Option.{option_map_or}
 use Rattle.std.specs.Prelude.{option_map}
 use Rattle.clap.specs.Kinds.{FailsBy, IsAmong}
 use Rattle.clap.specs.Faults.{fault_of}
-use Rattle.clap.specs.Words.{Row, Text, first_of, kind_of, subcommand_of}
+use Rattle.clap.specs.Words.{Row, Text, first_of, kind_of, subcommand_of, takes}
 use Rattle.clap.specs.declared.error.Error.{Error}
 use Rattle.clap.specs.declared.error.kind.ErrorKind.{ErrorKind}
 use Rattle.clap.specs.declared.error.kind.ErrorKind.TheVariants.{OutOfMemory}
@@ -105,10 +105,26 @@ refused words (Err e) is (inl memory) kind fault free = inl memory
 refused words (Err e) is (inr (inl among)) kind fault free = absurd (subst (IsAmong (kind_of e)) free among)
 refused words (Err e) is (inr (inr own)) kind fault free = inr (one_kind _ (kind_of e) kind own.1 fault)
 
-pub refused_by : (words : List Text) (r : Result Task Error) (e : Error) → IsErrAnd r (λ y. y ≡ e) → FailsBy (fault_of drop_app words) r
-    → (kind : ErrorKind) → IsSecretFault (subcommand_of drop_app words) kind → fault_of drop_app words ≡ [] → IsRefused kind r
-refused_by words (Ok t) e is fails = absurd is
-refused_by words (Err y) e is fails = refused words (Err y) tt (has_fault words (Err y) fails)
+-- ---- what clap found is what the words name
+
+abbrev FailsBySecret : Named → Result Task Error → Type 0
+FailsBySecret named r = IfErr r (λ e. (kind_of e ≡ OutOfMemory) ⊎ IsSecretFault named (kind_of e))
+
+pub is_task : (words : List Text) (named : Named) (r : Result Task Error) → named ≡ subcommand_of drop_app words → IfOk r (IsTaskIn named) → IfOk r (IsTaskOf words)
+is_task words named r same task = subst (λ n. IfOk r (IsTaskIn n)) same task
+
+pub fails_by_secret : (words : List Text) (named : Named) (r : Result Task Error) → named ≡ subcommand_of drop_app words → FailsBySecret named r
+    → IfErr r (λ e. takes drop_app words ≡ true → (kind_of e ≡ OutOfMemory) ⊎ IsSecretFault (subcommand_of drop_app words) (kind_of e))
+fails_by_secret words named (Ok t) same fault = tt
+fails_by_secret words named (Err e) same fault =
+    let own : FailsBySecret (subcommand_of drop_app words) (Err e) = subst (λ n. FailsBySecret n (Err e)) same fault in
+    λ taken. own
+
+pub fails_by_secret_or_words : (words : List Text) (named : Named) (r : Result Task Error) → named ≡ subcommand_of drop_app words → fault_of drop_app words ≡ []
+    → FailsBySecret named r → HasFault words r
+fails_by_secret_or_words words named (Ok t) same free fault = free
+fails_by_secret_or_words words named (Err e) same free (inl memory) = inl memory
+fails_by_secret_or_words words named (Err e) same free (inr own) = inr (inr (free, subst (λ n. IsSecretFault n (kind_of e)) same own))
 
 -- the matches of a command are those of the command that is named
 pub rows_of_init : (rows more : List Row) (named : Named) → option_map (λ p. p.1) named ≡ Some rows → named ≡ Some (codes "init", more) → rows ≡ more

@@ -1,11 +1,11 @@
 //! The task that the command line asks for.
 ghost use Rattle.std.specs.Prelude.{◌≡◌, ◌⊎◌, [], IfOk, IfErr, IfSome, IsErrAnd, IsSome, MatchResult, None, Some, codes, is_some, true, map};
-ghost use Rattle.clap.specs.Words.{all_of, fault_of, first_of, found_of, kind_of, rows_of, subcommand_of, subcommand_rows_of, takes};
+ghost use Rattle.clap.specs.Words.{all_of, app_of, fault_of, first_of, found_of, kind_of, rows_of, subcommand_of, subcommand_rows_of, takes};
 ghost use Rattle.tasks.specs.Tasks.{drop_app, HasDesk, HasExport, HasInit, HasLink, HasLinks, HasListing, HasOneSecret, HasReplay, HasServe, HasValue, IsDeskIn, IsExportIn, IsFaultOf, IsInitOf, IsLinkIn, IsLinksIn, IsListingIn, IsOfficeIn, IsReplayOf, IsSecretFault, IsSecretIn, IsServeIn, IsTaskIn, IsTaskOf, NamesCompare, NamesDesk, NamesExport, NamesInit, NamesLink, NamesLinks, NamesList, NamesListing, NamesManifest, NamesMigrate, NamesOneSecret, NamesReplay, NamesServe, NamesStock, NamesTask};
 
 use crate::words::{command_line, init_command};
 use clap::error::ErrorKind;
-use clap::{ArgMatches, Error};
+use clap::{ArgMatches, Command, Error};
 use std::alloc::{AllocError, Global};
 
 /// What the program is asked to do. It has no `Debug`, so that no secret gets into a log.
@@ -188,11 +188,46 @@ impl<'a> Task<'a> {
             → IsErrAnd result (λ e. (kind_of e ≡ ErrorKind.OutOfMemory) ⊎ (kind_of e ≡ kind)) }
     {
         let mut command = command_line(alloc)?;
+        Task::parsed(alloc, &mut command, words)
+    }
+
+    // The task of the words, which the program's command parses.
+    fn parsed(
+        alloc: Global,
+        command: &mut Command<'a>,
+        words: &'a [&'a str],
+    ) -> Result<Task<'a>, Error>
+        requires { app_of command.now ≡ drop_app }
+        ensures task { IfOk result (IsTaskOf (map (λ w. w.now) words.entry.now)) }
+        ensures passes { IfErr result (λ e. takes drop_app (map (λ w. w.now) words.entry.now) ≡ true
+            → (kind_of e ≡ ErrorKind.OutOfMemory)
+            ⊎ IsSecretFault (subcommand_of drop_app (map (λ w. w.now) words.entry.now))
+            (kind_of e)) }
+        ensures kinds { MatchResult result
+            (λ _. fault_of drop_app (map (λ w. w.now) words.entry.now) ≡ [])
+            (λ e. (kind_of e ≡ ErrorKind.OutOfMemory)
+            ⊎ IsFaultOf (map (λ w. w.now) words.entry.now) (kind_of e)) }
+    {
         let matches = command.try_get_matches_from_mut(words)?;
-        if let Some(kind) = secret_fault(&matches) {
+        Task::matched(alloc, command, &matches)
+    }
+
+    // The task that the words named, if the secrets of `init` have no fault.
+    fn matched(
+        alloc: Global,
+        command: &mut Command<'a>,
+        matches: &ArgMatches<'a>,
+    ) -> Result<Task<'a>, Error>
+        requires { NamesOneSecret (subcommand_rows_of matches.now)
+            → NamesTask (subcommand_rows_of matches.now) }
+        ensures task { IfOk result (IsTaskIn (subcommand_rows_of matches.now)) }
+        ensures fault { IfErr result (λ e. (kind_of e ≡ ErrorKind.OutOfMemory)
+            ⊎ IsSecretFault (subcommand_rows_of matches.now) (kind_of e)) }
+    {
+        if let Some(kind) = secret_fault(matches) {
             return Err(secret_error(alloc, kind)?);
         }
-        match Task::of_matches(alloc, &matches)? {
+        match Task::of_matches(alloc, matches)? {
             Some(task) => Ok(task),
             // The contract rules this out: clap has refused such words.
             None => Err(command.error(ErrorKind::MissingSubcommand, "a command is missing")?),
@@ -398,13 +433,20 @@ impl<'a> Link<'a> {
         ensures values { IfSome result (IsLinkIn (rows_of (found_of values.now))) }
         ensures given { HasLink (rows_of (found_of values.now)) → IsSome result }
     {
+        // These four are the values of `links` too.
+        let Links {
+            file,
+            key,
+            host,
+            region,
+        } = Links::of_matches(values)?;
         Some(Link {
-            file: value_of(values, "file")?,
+            file,
             method: value_of(values, "method")?,
             target: value_of(values, "target")?,
-            key: value_of(values, "key")?,
-            host: value_of(values, "host")?,
-            region: value_of(values, "region")?,
+            key,
+            host,
+            region,
             start: value_of(values, "start")?,
             expires: value_of(values, "expires")?,
         })

@@ -199,7 +199,30 @@ fn with_command<'a>(
     ensures { (app below : App) → IfOk line.entry (λ c. app_of c ≡ app) → IfOk command.entry (IsLocal below)
         → IfOk result (λ c. app_of c ≡ with_subcommand app below.top) }
 {
-    line?.subcommand(command?)
+    match line {
+        Ok(line) => with_built(line, command),
+        Err(error) => {
+            drop(command);
+            Err(error)
+        }
+    }
+}
+
+// The same for a line that did not fail.
+fn with_built<'a>(
+    line: Command<'a>,
+    command: Result<Command<'a>, AllocError>,
+) -> Result<Command<'a>, AllocError>
+    ensures { (below : App) → IfOk command.entry (IsLocal below)
+        → IfOk result (λ c. app_of c ≡ with_subcommand (app_of line.entry) below.top) }
+{
+    match command {
+        Ok(command) => line.subcommand(command),
+        Err(error) => {
+            drop(line);
+            Err(error)
+        }
+    }
 }
 
 // `init`, `desk`, `link`, `links`.
@@ -265,7 +288,13 @@ fn with_arg<'a>(
     ensures { (app : App) (rule : Rule) → IfOk command.entry (IsLocal app) → rule_of arg.entry ≡ rule → arg.entry.global ≡ false
         → IfOk result (IsLocal (with_rule app rule)) }
 {
-    command?.arg(arg)
+    match command {
+        Ok(command) => command.arg(arg),
+        Err(error) => {
+            drop(arg);
+            Err(error)
+        }
+    }
 }
 
 /// `init FILE --clerk ID --secret SECRET --secret-file SECRETFILE --east M --west M --allowance N`. clap does
