@@ -266,24 +266,30 @@ impl<'a> Task<'a> {
         ensures task { IfSome result (IsTaskIn (subcommand_rows_of matches.now)) }
         ensures named { NamesInit (subcommand_rows_of matches.now) → IsSome result }
     {
-        let values = matches.subcommand_matches("init")?;
-        Some(Task::Init(Init::of_matches(values)?))
+        matches
+            .subcommand_matches("init")
+            .and_then(Init::of_matches)
+            .map(Task::Init)
     }
 
     fn desk_in(matches: &ArgMatches<'a>) -> Option<Task<'a>>
         ensures task { IfSome result (IsTaskIn (subcommand_rows_of matches.now)) }
         ensures named { NamesDesk (subcommand_rows_of matches.now) → IsSome result }
     {
-        let values = matches.subcommand_matches("desk")?;
-        Some(Task::Desk(Desk::of_matches(values)?))
+        matches
+            .subcommand_matches("desk")
+            .and_then(Desk::of_matches)
+            .map(Task::Desk)
     }
 
     fn link_in(matches: &ArgMatches<'a>) -> Option<Task<'a>>
         ensures task { IfSome result (IsTaskIn (subcommand_rows_of matches.now)) }
         ensures named { NamesLink (subcommand_rows_of matches.now) → IsSome result }
     {
-        let values = matches.subcommand_matches("link")?;
-        Some(Task::Link(Link::of_matches(values)?))
+        matches
+            .subcommand_matches("link")
+            .and_then(Link::of_matches)
+            .map(Task::Link)
     }
 
     // A list or an export.
@@ -291,10 +297,7 @@ impl<'a> Task<'a> {
         ensures task { IfSome result (IsTaskIn (subcommand_rows_of matches.now)) }
         ensures named { NamesStock (subcommand_rows_of matches.now) → IsSome result }
     {
-        if let Some(task) = Task::list_in(matches) {
-            return Some(task);
-        }
-        Task::export_in(matches)
+        Task::list_in(matches).or(Task::export_in(matches))
     }
 
     // A list that is read or written.
@@ -302,72 +305,80 @@ impl<'a> Task<'a> {
         ensures task { IfSome result (IsTaskIn (subcommand_rows_of matches.now)) }
         ensures named { NamesList (subcommand_rows_of matches.now) → IsSome result }
     {
-        if let Some(task) = Task::links_in(matches) {
-            return Some(task);
-        }
-        if let Some(task) = Task::manifest_in(matches) {
-            return Some(task);
-        }
-        if let Some(task) = Task::compare_in(matches) {
-            return Some(task);
-        }
-        Task::listing_in(matches)
+        Task::links_in(matches)
+            .or(Task::manifest_in(matches))
+            .or(Task::compare_in(matches))
+            .or(Task::listing_in(matches))
     }
 
     fn links_in(matches: &ArgMatches<'a>) -> Option<Task<'a>>
         ensures task { IfSome result (IsTaskIn (subcommand_rows_of matches.now)) }
         ensures named { NamesLinks (subcommand_rows_of matches.now) → IsSome result }
     {
-        let values = matches.subcommand_matches("links")?;
-        Some(Task::Links(Links::of_matches(values)?))
+        matches
+            .subcommand_matches("links")
+            .and_then(Links::of_matches)
+            .map(Task::Links)
     }
 
     fn manifest_in(matches: &ArgMatches<'a>) -> Option<Task<'a>>
         ensures task { IfSome result (IsTaskIn (subcommand_rows_of matches.now)) }
         ensures named { NamesManifest (subcommand_rows_of matches.now) → IsSome result }
     {
-        let values = matches.subcommand_matches("manifest")?;
-        Some(Task::Manifest(OfficeFile::of_matches(values)?))
+        matches
+            .subcommand_matches("manifest")
+            .and_then(OfficeFile::of_matches)
+            .map(Task::Manifest)
     }
 
     fn compare_in(matches: &ArgMatches<'a>) -> Option<Task<'a>>
         ensures task { IfSome result (IsTaskIn (subcommand_rows_of matches.now)) }
         ensures named { NamesCompare (subcommand_rows_of matches.now) → IsSome result }
     {
-        let values = matches.subcommand_matches("compare")?;
-        Some(Task::Compare(OfficeFile::of_matches(values)?))
+        matches
+            .subcommand_matches("compare")
+            .and_then(OfficeFile::of_matches)
+            .map(Task::Compare)
     }
 
     fn listing_in(matches: &ArgMatches<'a>) -> Option<Task<'a>>
         ensures task { IfSome result (IsTaskIn (subcommand_rows_of matches.now)) }
         ensures named { NamesListing (subcommand_rows_of matches.now) → IsSome result }
     {
-        let values = matches.subcommand_matches("list")?;
-        Some(Task::List(Listing::of_matches(values)?))
+        matches
+            .subcommand_matches("list")
+            .and_then(Listing::of_matches)
+            .map(Task::List)
     }
 
     fn export_in(matches: &ArgMatches<'a>) -> Option<Task<'a>>
         ensures task { IfSome result (IsTaskIn (subcommand_rows_of matches.now)) }
         ensures named { NamesExport (subcommand_rows_of matches.now) → IsSome result }
     {
-        let values = matches.subcommand_matches("export")?;
-        Some(Task::Export(Export::of_matches(values)?))
+        matches
+            .subcommand_matches("export")
+            .and_then(Export::of_matches)
+            .map(Task::Export)
     }
 
     fn serve_in(matches: &ArgMatches<'a>) -> Option<Task<'a>>
         ensures task { IfSome result (IsTaskIn (subcommand_rows_of matches.now)) }
         ensures named { NamesServe (subcommand_rows_of matches.now) → IsSome result }
     {
-        let values = matches.subcommand_matches("serve")?;
-        Some(Task::Serve(Serve::of_matches(values)?))
+        matches
+            .subcommand_matches("serve")
+            .and_then(Serve::of_matches)
+            .map(Task::Serve)
     }
 
     fn migrate_in(matches: &ArgMatches<'a>) -> Option<Task<'a>>
         ensures task { IfSome result (IsTaskIn (subcommand_rows_of matches.now)) }
         ensures named { NamesMigrate (subcommand_rows_of matches.now) → IsSome result }
     {
-        let values = matches.subcommand_matches("migrate")?;
-        Some(Task::Migrate(OfficeFile::of_matches(values)?))
+        matches
+            .subcommand_matches("migrate")
+            .and_then(OfficeFile::of_matches)
+            .map(Task::Migrate)
     }
 
     fn replay_in(alloc: Global, matches: &ArgMatches<'a>) -> Result<Option<Task<'a>>, AllocError>
@@ -391,13 +402,23 @@ impl<'a> Init<'a> {
         ensures values { IfSome result (IsInitOf (rows_of (found_of values.now))) }
         ensures given { HasInit (rows_of (found_of values.now)) → IsSome result }
     {
+        let (Some(file), Some(clerk), Some(secret), Some(east), Some(west), Some(allowance)) = (
+            value_of(values, "file"),
+            value_of(values, "clerk"),
+            Secret::of_matches(values),
+            value_of(values, "east"),
+            value_of(values, "west"),
+            value_of(values, "allowance"),
+        ) else {
+            return None;
+        };
         Some(Init {
-            file: value_of(values, "file")?,
-            clerk: value_of(values, "clerk")?,
-            secret: Secret::of_matches(values)?,
-            east: value_of(values, "east")?,
-            west: value_of(values, "west")?,
-            allowance: value_of(values, "allowance")?,
+            file,
+            clerk,
+            secret,
+            east,
+            west,
+            allowance,
         })
     }
 }
@@ -440,15 +461,23 @@ impl<'a> Link<'a> {
             host,
             region,
         } = Links::of_matches(values)?;
+        let (Some(method), Some(target), Some(start), Some(expires)) = (
+            value_of(values, "method"),
+            value_of(values, "target"),
+            value_of(values, "start"),
+            value_of(values, "expires"),
+        ) else {
+            return None;
+        };
         Some(Link {
             file,
-            method: value_of(values, "method")?,
-            target: value_of(values, "target")?,
+            method,
+            target,
             key,
             host,
             region,
-            start: value_of(values, "start")?,
-            expires: value_of(values, "expires")?,
+            start,
+            expires,
         })
     }
 }
@@ -458,11 +487,19 @@ impl<'a> Links<'a> {
         ensures values { IfSome result (IsLinksIn (rows_of (found_of values.now))) }
         ensures given { HasLinks (rows_of (found_of values.now)) → IsSome result }
     {
+        let (Some(file), Some(key), Some(host), Some(region)) = (
+            value_of(values, "file"),
+            value_of(values, "key"),
+            value_of(values, "host"),
+            value_of(values, "region"),
+        ) else {
+            return None;
+        };
         Some(Links {
-            file: value_of(values, "file")?,
-            key: value_of(values, "key")?,
-            host: value_of(values, "host")?,
-            region: value_of(values, "region")?,
+            file,
+            key,
+            host,
+            region,
         })
     }
 }
@@ -508,12 +545,21 @@ impl<'a> Serve<'a> {
         ensures values { IfSome result (IsServeIn (rows_of (found_of values.now))) }
         ensures given { HasServe (rows_of (found_of values.now)) → IsSome result }
     {
+        let (Some(file), Some(listen), Some(connections), Some(patience), Some(open)) = (
+            value_of(values, "file"),
+            value_of(values, "listen"),
+            value_of(values, "connections"),
+            value_of(values, "patience"),
+            value_of(values, "open"),
+        ) else {
+            return None;
+        };
         Some(Serve {
-            file: value_of(values, "file")?,
-            listen: value_of(values, "listen")?,
-            connections: value_of(values, "connections")?,
-            patience: value_of(values, "patience")?,
-            open: value_of(values, "open")?,
+            file,
+            listen,
+            connections,
+            patience,
+            open,
             manifest: value_of(values, "manifest"),
         })
     }
