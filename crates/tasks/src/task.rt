@@ -188,7 +188,10 @@ impl<'a> Task<'a> {
             → IsErrAnd result (λ e. (kind_of e ≡ ErrorKind.OutOfMemory) ⊎ (kind_of e ≡ kind)) }
     {
         let mut command = command_line(alloc)?;
-        Task::parsed(alloc, &mut command, words)
+        let task = Task::parsed(alloc, &mut command, words);
+        // A call drops the command, so that the proof does not drop each of its fields.
+        drop(command);
+        task
     }
 
     // The task of the words, which the program's command parses.
@@ -608,7 +611,11 @@ fn secret_error(alloc: Global, kind: ErrorKind) -> Result<Error, AllocError>
         _ =>
             "the following required arguments were not provided:\n  <--secret <SECRET>|--secret-file <SECRETFILE>>",
     };
-    init_command(alloc)?.error(kind, message)
+    let mut command = init_command(alloc)?;
+    let error = command.error(kind, message);
+    // A call drops the command, so that the proof does not drop each of its fields.
+    drop(command);
+    error
 }
 
 // The value of an argument that has one value.

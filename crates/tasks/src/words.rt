@@ -191,7 +191,8 @@ fn bare_line<'a>(alloc: Global) -> Command<'a>
 }
 
 // Adds a command to those of `line`. A function that builds takes what may have failed, and passes on a refused allocation:
-// with `?` at each step a proof would grow with the square of the steps.
+// with `?` at each step a proof would grow with the square of the steps. A call drops what is left then, so that the proof
+// does not drop each of its fields.
 fn with_command<'a>(
     line: Result<Command<'a>, AllocError>,
     command: Result<Command<'a>, AllocError>,
