@@ -73,17 +73,30 @@ fn export_into<K: Rolls, R: Files>(
         → AddsStanding K.Keeper keeper.old keeper.new s }
 {
     let alloc = folder.alloc;
-    let mut files = list_in(rt, alloc, words.folder, "files.csv", ExportFault::Files)?;
-    let mut sums = list_in(rt, alloc, words.folder, "SHA256SUMS", ExportFault::Sums)?;
+    let (mut files, mut sums) = lists_in(rt, alloc, words.folder)?;
     let in_box = words.in_box.map(|name| name.as_bytes());
     let exported = export(alloc, keeper, in_box, folder, &mut files, &mut sums);
-    let are_flushed = (files.flush().is_ok(), sums.flush().is_ok());
-    exported?;
-    match are_flushed {
+    exported.and(flush(&mut files, &mut sums))
+}
+
+// Flushes the two lists, also the second if the first fails.
+fn flush<W: Write>(files: &mut W, sums: &mut W) -> Result<(), ExportFault> {
+    match (files.flush().is_ok(), sums.flush().is_ok()) {
         (true, true) => Ok(()),
         (false, _) => Err(ExportFault::Files),
         (true, false) => Err(ExportFault::Sums),
     }
+}
+
+// The two lists in the folder.
+fn lists_in<R: Files>(
+    rt: &R,
+    alloc: Global,
+    folder: &str,
+) -> Result<(Counted<BufWriter<R::File>>, Counted<BufWriter<R::File>>), ExportFault> {
+    let files = list_in(rt, alloc, folder, "files.csv", ExportFault::Files)?;
+    let sums = list_in(rt, alloc, folder, "SHA256SUMS", ExportFault::Sums)?;
+    Ok((files, sums))
 }
 
 // A buffered writer for a list in the folder.
