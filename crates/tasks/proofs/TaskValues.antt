@@ -1,5 +1,6 @@
 -- The texts that the getters return, by the rows of the matches.
-use Rattle.std.proofs.Common.{rules, ◌≡◌, ◌∙◌, ap, refl, subst, sym, false, true, List, map, Option, Some, None, is_some, Bor}
+use Rattle.std.proofs.Common.{rules, ◌≡◌, ◌⊎◌, inl, inr, ◌∙◌, ap, refl, subst, sym, false, true, List, map, Option, Some, None, is_some, Bor}
+use Rattle.std.specs.Option.{option_or}
 use Rattle.std.specs.Prelude.{option_map, IfSome, IsSome}
 use Rattle.clap.specs.Words.{Text, all_of, first_of, first_value, matched_of, raw_values, rows_of}
 use Rattle.clap.specs.declared.parser.matches.Found.{Found}
@@ -53,3 +54,17 @@ not_none {X} found some is =
     let none : Option X = None in
     let bad : IsSome none = subst (λ o. IsSome o) is some in
     cc
+
+-- ---- what was found first
+
+-- the first or the second
+pub some_or : {X : Type 0} (x y r : Option X) → r ≡ option_or x y → IsSome x ⊎ IsSome y → IsSome r
+some_or (Some x) y r same some = subst (λ o. IsSome o) (sym same) refl
+some_or None y r same (inl some) =
+    let bad : false ≡ true = some in
+    cc
+some_or None y r same (inr some) = subst (λ o. IsSome o) (sym same) some
+
+pub if_some_or : {X : Type 0} (P : X → Type 0) (x y r : Option X) → r ≡ option_or x y → IfSome x P → IfSome y P → IfSome r P
+if_some_or P (Some x) y r same one other = subst (λ o. IfSome o P) (sym same) one
+if_some_or P None y r same one other = subst (λ o. IfSome o P) (sym same) other
