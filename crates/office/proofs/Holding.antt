@@ -1,7 +1,16 @@
 -- How the keeper holds up over calls.
-use Rattle.std.proofs.Common.{◌∙◌, refl, arith}
+use Rattle.std.proofs.Common.{◌≡◌, ◌∙◌, Result, Ok, Err, ap, refl, arith}
+use Rattle.sigtext.specs.declared.refusal.Refusal.{Refusal}
+use Rattle.sigtext.specs.declared.refusal.Refusal.TheVariants as rule
 use Rattle.keeper.specs.declared.keep.Keeper.{Ghosts}
-use Rattle.office.specs.Premise.{HoldsUnless}
+use Rattle.office.specs.Premise.{HoldsUnless, IsGivenUp}
+
+-- the same refusal, of another kind of result
+pub given_up_too : {T U : Type 0} (q : Refusal) → IsGivenUp {T = T} (Err q) → IsGivenUp {T = U} (Err q)
+given_up_too q is = ap Err (refusal_is q is)
+  where
+    refusal_is : {T : Type 0} (q : Refusal) → ◌≡◌ {A = Result T Refusal} (Err q) (Err rule.TryAgain) → q ≡ rule.TryAgain
+    refusal_is q is = cc
 
 module _ {K : Type 0} {k : Ghosts K} where
   -- nothing was called
@@ -24,3 +33,11 @@ module _ {K : Type 0} {k : Ghosts K} where
     counted = λ other. y.counted other ∙ x.counted (λ none. none);
     never_less = omega (arith, x.never_less, y.never_less);
   }
+
+  -- what was answered was not given up
+  pub answered_holds : {T : Type 0} {a b : K} {x : T} {more : Type 0} → HoldsUnless k a b (IsGivenUp (Ok x)) → HoldsUnless k a b more
+  answered_holds holds = holds_less (λ is. absurd cc) holds
+
+  -- a refusal that is passed on
+  pub refused_holds : {T U : Type 0} {a b : K} {q : Refusal} → HoldsUnless k a b (IsGivenUp {T = T} (Err q)) → HoldsUnless k a b (IsGivenUp {T = U} (Err q))
+  refused_holds {q = q} holds = holds_less (given_up_too q) holds

@@ -1,8 +1,8 @@
 -- Several calls of a keeper that leave the state unchanged, and what they leave staged.
 use Rattle.std.proofs.Common.{◌≡◌, ◌≤◌, Bool, true, false, [], ◌⊎◌, ⊎_elim, inl, inr, Result, Ok, Err, refl, arith}
-use Rattle.std.specs.Prelude.{IsFalse, IsTrue, OnOk}
+use Rattle.std.specs.Prelude.{IsFalse, IsTrue, OnErr, OnOk}
 use Rattle.std.specs.Result.{is_err}
-use Rattle.sigtext.specs.Counts.{Rose}
+use Rattle.sigtext.specs.Counts.{CountsErrors, Rose}
 use Rattle.boxes.specs.State.{State}
 use Rattle.keeper.specs.Bound.{StaysBy}
 use Rattle.keeper.specs.Keeping.{KeepsStaged}
@@ -12,12 +12,22 @@ use Rattle.office.specs.Crashes.{AddsStanding}
 use Rattle.office.specs.Premise.{EndsUnstaged, HoldsUnless, IsFault, StaysUnstaged}
 use Rattle.office.proofs.Endurance.{asked_standing, then_adds}
 use Rattle.office.proofs.Holding.{holds_less, holds_then}
-use Rattle.office.proofs.Unstaged.{asked_holds, ends_before, ends_later, failed_holds, then_holds}
+use Rattle.office.proofs.Unstaged.{asked_holds, ends_before, ends_later, failed_holds, rose_least, then_holds}
 
 -- a property of a call without an error
 pub on_ok : {T E : Type 0} (P : Type 0) (b : Bool) (result : Result T E) → b ≡ is_err result → b ≡ false → OnOk result P → P
 on_ok P b (Ok x) is false_is holds = holds
 on_ok P b (Err e) is false_is holds = absurd cc
+
+-- a property of a call with an error
+pub on_err : {T E : Type 0} (P : Type 0) (b : Bool) (result : Result T E) → b ≡ is_err result → b ≡ true → OnErr result P → P
+on_err P b (Ok x) is true_is holds = absurd cc
+on_err P b (Err e) is true_is holds = holds
+
+-- what holds in any case
+pub on_err_too : {T E : Type 0} {P : Type 0} (result : Result T E) → P → OnErr result P
+on_err_too (Ok x) holds = tt
+on_err_too (Err e) holds = holds
 
 -- ---- calls that leave the state
 
@@ -29,12 +39,18 @@ pub record Quiet {K : Type 0} (k : Ghosts K) (old new : K) (gave_up : Type 0) : 
 
 module _ {K : Type 0} {k : Ghosts K} where
   -- a question, whatever its answer
-  called_holds : {T : Type 0} {a b : K} (result : Result T KeepFault) → StaysBy k a b result → HoldsUnless k a b (IsFault result)
+  pub called_holds : {T : Type 0} {a b : K} (result : Result T KeepFault) → StaysBy k a b result → HoldsUnless k a b (IsFault result)
   called_holds {a = a} {b = b} (Ok x) rest = asked_holds k a b x rest
   called_holds {a = a} {b = b} (Err f) rest = failed_holds k a b f rest tt
 
   pub quiet_asked : {T : Type 0} {a b : K} (result : Result T KeepFault) → StaysBy k a b result → Quiet k a b (IsFault result)
   quiet_asked result rest = record { means = rest.same; crash = λ s means honest. asked_standing rest means honest; rest = called_holds result rest }
+
+  -- a change, whatever its result
+  pub changed_holds : {T : Type 0} {a b : K} (result : Result T KeepFault) → (k.is_honest b → k.is_honest a) → (k.is_honest b → OnOk result (k.is_open b)) → CountsErrors (k.faults a) (k.faults b) result
+      → HoldsUnless k a b (IsFault result)
+  changed_holds (Ok x) honest opened count = record { honest = honest; opened = λ is was other. opened is; counted = λ other. count.ok; never_less = let same = count.ok in omega (arith, same) }
+  changed_holds {a = a} {b = b} (Err f) honest opened count = record { honest = honest; opened = λ is was other. absurd (other tt); counted = λ other. absurd (other tt); never_less = rose_least (k.faults a) (k.faults b) count.err }
 
   pub quiet_less : {a b : K} {gave_up more : Type 0} → (gave_up → more) → Quiet k a b gave_up → Quiet k a b more
   quiet_less less x = record { means = x.means; crash = x.crash; rest = holds_less less x.rest }

@@ -22,6 +22,7 @@ pub mod Placing
 pub mod Begun
 pub mod BodySteps
 pub mod KeeperCalls
+pub mod Questions
 pub mod Stagings
 mod Foreseen
 mod Staged

@@ -1,8 +1,10 @@
 //! Desk commands.
 
+ghost use Rattle.std.specs.Prelude.{◌≡◌};
+
 use super::places::decoded_path;
 use crate::office::Office;
-use boxes::{Change, Command, DeskView, desk as decide, law_of_changes};
+use boxes::{Change, Command, DeskView, KeyRow, desk as decide, law_of_changes};
 use desk::read_command;
 use keeper::{KeepFault, Keeper};
 use links::LinkParts;
@@ -27,13 +29,29 @@ pub enum DeskFault {
     Kept(KeepFault),
 }
 
+// A view of this key, for which nothing else was asked.
+fn key_view(key: Option<KeyRow>) -> DeskView
+    ensures { result.key ≡ key }
+{
+    DeskView {
+        key,
+        clerks: 0,
+        has_box: false,
+        has_file: false,
+        has_limit: false,
+    }
+}
+
 impl<K: Keeper> Office<K> {
-    ghost use Rattle.std.specs.Prelude.{◌≡◌, ◌≢◌, ◌↔◌, ◌⊎◌, ℕ, Err, IfErr, IfOk, IsErrAnd, IsSome, IsTrue, OnErr, OnOk};
+    ghost use Rattle.std.specs.Prelude.{◌≡◌, ◌≢◌, ◌↔◌, ◌⊎◌, ℕ, Err, IfErr, IfOk, IsErrAnd, IsSome, IsTrue, OnErr, OnOk, option_map};
     ghost use Rattle.std.specs.FinMap.{get};
     ghost use Rattle.sigtext.specs.Counts.{Rose};
     ghost use Rattle.sigtext.specs.Request.{Request};
     ghost use Rattle.boxes.specs.Changes.{command_of, IsObeyed};
     ghost use Rattle.boxes.specs.Commands.{HasForm};
+    ghost use Rattle.boxes.specs.Clerks.{clerks};
+    ghost use Rattle.boxes.specs.Limits.{IsLimitedTo};
+    ghost use Rattle.boxes.specs.Rows.{key_of};
     ghost use Rattle.boxes.specs.State.{State};
     ghost use Rattle.boxes.specs.Steps.{IsPossible};
     ghost use Rattle.boxes.specs.Views.{IsDeskViewOf};
@@ -59,6 +77,80 @@ impl<K: Keeper> Office<K> {
         Ok(self.keeper.box_row(name)?.is_some())
     }
 
+    // Asks the keeper for the key of this id.
+    fn view_key(&mut self, id: &[u8]) -> Result<DeskView, KeepFault>
+        ensures view { (s : State) → WasKept K.Keeper self.old.keeper self.new.keeper s
+            → IfOk result (λ v. option_map key_of v.key ≡ get s.keys id.now) }
+        ensures staged { KeepsStaged K.stages self.old.keeper self.new.keeper }
+        ensures rest { StaysBy K.Keeper self.old.keeper self.new.keeper result }
+    {
+        Ok(key_view(self.keeper.key(id)?))
+    }
+
+    // Asks the keeper for the key of this id, and for the number of unrevoked clerk's keys.
+    fn view_clerks(&mut self, id: &[u8]) -> Result<DeskView, KeepFault>
+        ensures view { (s : State) → WasKept K.Keeper self.old.keeper self.new.keeper s
+            → IfOk result (λ v. (option_map key_of v.key ≡ get s.keys id.now)
+            × (v.clerks ≡ clerks s)) }
+        ensures staged { KeepsStaged K.stages self.old.keeper self.new.keeper }
+        ensures rest { StaysBy K.Keeper self.old.keeper self.new.keeper result }
+    {
+        let key = self.keeper.key(id)?;
+        let clerks = self.keeper.clerks()?;
+        Ok(DeskView {
+            clerks,
+            ..key_view(key)
+        })
+    }
+
+    // Asks the keeper whether the box of this name exists.
+    fn view_box(&mut self, name: &[u8]) -> Result<DeskView, KeepFault>
+        ensures view { (s : State) → WasKept K.Keeper self.old.keeper self.new.keeper s
+            → IfOk result (λ v. IsTrue v.has_box ↔ IsSome (get s.boxes name.now)) }
+        ensures staged { KeepsStaged K.stages self.old.keeper self.new.keeper }
+        ensures rest { StaysBy K.Keeper self.old.keeper self.new.keeper result }
+    {
+        let has_box = self.has_box(name)?;
+        Ok(DeskView {
+            has_box,
+            ..key_view(None)
+        })
+    }
+
+    // Asks the keeper whether the file of this box and name exists.
+    fn view_file(&mut self, in_box: &[u8], name: &[u8]) -> Result<DeskView, KeepFault>
+        ensures view { (s : State) → WasKept K.Keeper self.old.keeper self.new.keeper s
+            → IfOk result (λ v. IsTrue v.has_file
+            ↔ IsSome (get s.files (record { box = in_box.now; name = name.now }))) }
+        ensures staged { KeepsStaged K.stages self.old.keeper self.new.keeper }
+        ensures rest { StaysBy K.Keeper self.old.keeper self.new.keeper result }
+    {
+        let has_file = self.keeper.file(in_box, name)?.is_some();
+        Ok(DeskView {
+            has_file,
+            ..key_view(None)
+        })
+    }
+
+    // Asks the keeper for the key of this id, the box of this name, and whether the key is limited to it.
+    fn view_limit(&mut self, id: &[u8], in_box: &[u8]) -> Result<DeskView, KeepFault>
+        ensures view { (s : State) → WasKept K.Keeper self.old.keeper self.new.keeper s
+            → IfOk result (λ v. (option_map key_of v.key ≡ get s.keys id.now)
+            × (IsTrue v.has_box ↔ IsSome (get s.boxes in_box.now))
+            × (IsTrue v.has_limit ↔ IsLimitedTo s id.now in_box.now)) }
+        ensures staged { KeepsStaged K.stages self.old.keeper self.new.keeper }
+        ensures rest { StaysBy K.Keeper self.old.keeper self.new.keeper result }
+    {
+        let key = self.keeper.key(id)?;
+        let has_box = self.has_box(in_box)?;
+        let has_limit = self.keeper.has_limit(id, in_box)?;
+        Ok(DeskView {
+            has_box,
+            has_limit,
+            ..key_view(key)
+        })
+    }
+
     // Asks the keeper for what the rule of a command depends on.
     fn look_at(&mut self, command: &Command<'_>) -> Result<DeskView, KeepFault>
         ensures view { (s : State) → WasKept K.Keeper self.old.keeper self.new.keeper s
@@ -66,32 +158,15 @@ impl<K: Keeper> Office<K> {
         ensures staged { KeepsStaged K.stages self.old.keeper self.new.keeper }
         ensures rest { StaysBy K.Keeper self.old.keeper self.new.keeper result }
     {
-        let mut view = DeskView {
-            key: None,
-            clerks: 0,
-            has_box: false,
-            has_file: false,
-            has_limit: false,
-        };
         match command {
-            Command::AddKey { id, .. } => view.key = self.keeper.key(id)?,
-            Command::RevokeKey { id } => {
-                view.key = self.keeper.key(id)?;
-                view.clerks = self.keeper.clerks()?;
-            }
-            Command::AddBox { name, .. } => view.has_box = self.has_box(name)?,
-            Command::CloseBox { name, .. } => view.has_box = self.has_box(name)?,
-            Command::DropFile { in_box, name } => {
-                view.has_file = self.keeper.file(in_box, name)?.is_some();
-            }
-            Command::LimitKey { id, in_box } => {
-                view.key = self.keeper.key(id)?;
-                view.has_box = self.has_box(in_box)?;
-                view.has_limit = self.keeper.has_limit(id, in_box)?;
-            }
-            Command::SetAllowance { .. } => {}
+            Command::AddKey { id, .. } => self.view_key(id),
+            Command::RevokeKey { id } => self.view_clerks(id),
+            Command::AddBox { name, .. } => self.view_box(name),
+            Command::CloseBox { name, .. } => self.view_box(name),
+            Command::DropFile { in_box, name } => self.view_file(in_box, name),
+            Command::LimitKey { id, in_box } => self.view_limit(id, in_box),
+            Command::SetAllowance { .. } => Ok(key_view(None)),
         }
-        Ok(view)
     }
 
     // Does a well-formed command, if it is possible.

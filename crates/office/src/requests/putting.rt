@@ -11,7 +11,8 @@ use super::foreseeing::Body;
 use super::places::{FilePlace, read_place};
 use crate::office::Office;
 use boxes::{
-    BoxRow, Change, NewBytes, NewFile, ReceiptRow, UploadView, Uploading, law_of_changes, upload,
+    BoxRow, Change, NewBytes, NewFile, OfficeRow, ReceiptRow, Totals, UploadView, Uploading,
+    law_of_changes, upload,
 };
 use keeper::{KeepFault, Keeper};
 use links::LinkParts;
@@ -52,14 +53,14 @@ fn may_stand(receipt: &Option<ReceiptRow>, body: &Body) -> bool
 }
 
 impl<K: Keeper> Office<K> {
-    ghost use Rattle.std.specs.Prelude.{◌≡◌, ◌≢◌, ◌↔◌, ℕ, List, [], Err, IsTrue, IfErr, IfOk, OnErr, OnOk, option_map};
+    ghost use Rattle.std.specs.Prelude.{◌≡◌, ◌≢◌, ◌↔◌, ℕ, ◌+◌, List, [], length, Err, IsTrue, IfErr, IfOk, OnErr, OnOk, option_map};
     ghost use Rattle.std.specs.FinMap.{get};
     ghost use Rattle.sigtext.specs.Request.{Request};
     ghost use Rattle.boxes.specs.Changes.{IsFileSet};
-    ghost use Rattle.boxes.specs.Rows.{settings_of};
+    ghost use Rattle.boxes.specs.Rows.{IsOfficeOf, settings_of};
     ghost use Rattle.boxes.specs.Rules.{Stands, Upload};
     ghost use Rattle.boxes.specs.State.{State};
-    ghost use Rattle.boxes.specs.Views.{IsReceiptAt, IsUploadViewOf};
+    ghost use Rattle.boxes.specs.Views.{AreTotals, IsReceiptAt, IsUploadViewOf};
     ghost use Rattle.keeper.specs.Bound.{StaysBy};
     ghost use Rattle.keeper.specs.Keeping.{KeepsStaged, LeavesEither};
     ghost use Rattle.links.specs.LinkReadings.{IsLinkOf};
@@ -93,6 +94,43 @@ impl<K: Keeper> Office<K> {
         self.keeper.staged_equals(place.in_box, place.name)
     }
 
+    // Asks the keeper for the settings, for the totals of the box of this name, and for the number of the
+    // next receipt.
+    fn ask_office(&mut self, in_box: &[u8]) -> Result<(OfficeRow, Totals, u64), KeepFault>
+        ensures value { (s : State) → WasKept K.Keeper self.old.keeper self.new.keeper s
+            → IfOk result (λ p. IsOfficeOf s p.0 × AreTotals s in_box.now p.1
+            × (p.2 ≡ length s.receipts + 1)) }
+        ensures staged { KeepsStaged K.stages self.old.keeper self.new.keeper }
+        ensures rest { StaysBy K.Keeper self.old.keeper self.new.keeper result }
+    {
+        let office = self.keeper.settings()?;
+        let totals = self.keeper.sizes(in_box)?;
+        let next_number = self.keeper.next_number()?;
+        Ok((office, totals, next_number))
+    }
+
+    // Asks the keeper for the receipt of the file at the place, and whether the staged bytes are already
+    // stored there.
+    fn ask_place(
+        &mut self,
+        place: FilePlace<'_>,
+        body: &Body,
+    ) -> Result<(Option<ReceiptRow>, bool), KeepFault>
+        ensures standing { (s : State) → WasKept K.Keeper self.old.keeper self.new.keeper s
+            → IfOk result (λ p. IsReceiptAt s (place_at place.entry) p.0) }
+        ensures stand { (s : State) (u : Upload)
+            → WasKept K.Keeper self.old.keeper self.new.keeper s
+            → u.place ≡ place_at place.entry
+            → AreStaged K.Keeper self.old.keeper u.bytes body.now
+            → IfOk result (λ p. IsTrue p.1 ↔ Stands s u) }
+        ensures staged { OnOk result (KeepsStaged K.stages self.old.keeper self.new.keeper) }
+        ensures rest { StaysBy K.Keeper self.old.keeper self.new.keeper result }
+    {
+        let standing = self.keeper.file_receipt(place.in_box, place.name)?;
+        let stand = self.stand(place, &standing, body)?;
+        Ok((standing, stand))
+    }
+
     // Asks the keeper what an upload of the staged bytes to the place needs. The box was asked for before.
     fn look_up(
         &mut self,
@@ -111,11 +149,8 @@ impl<K: Keeper> Office<K> {
         ensures staged { OnOk result (KeepsStaged K.stages self.old.keeper self.new.keeper) }
         ensures rest { StaysBy K.Keeper self.old.keeper self.new.keeper result }
     {
-        let office = self.keeper.settings()?;
-        let totals = self.keeper.sizes(place.in_box)?;
-        let next_number = self.keeper.next_number()?;
-        let standing = self.keeper.file_receipt(place.in_box, place.name)?;
-        let stand = self.stand(place, &standing, body)?;
+        let (office, totals, next_number) = self.ask_office(place.in_box)?;
+        let (standing, stand) = self.ask_place(place, body)?;
         let view = UploadView {
             office,
             in_box,

@@ -1,4 +1,4 @@
-use Rattle.std.proofs.Common.{◌≡◌, Some, sym, subst, ◌∙◌}
+use Rattle.std.proofs.Common.{◌≡◌, Some, sym, subst, ◌∙◌, inl}
 use Rattle.boxes.specs.Changes.{command_of}
 use Rattle.boxes.specs.Steps.{Command}
 use Rattle.desk.specs.Lines.{said}
@@ -6,6 +6,7 @@ use Rattle.office.specs.Crashes.{Endures}
 use Rattle.office.specs.DeskLines.{IsDeskLine}
 use Rattle.office.proofs.Endurance.{undone_more}
 use Rattle.office.proofs.Possible.{obeyed_by}
+use Rattle.office.proofs.Holding.{holds_still}
 use Rattle.office.proofs.office.Office.desk.Goals as goal
 
 some_is : (a b : Command) → Some a ≡ Some b → b ≡ a
@@ -31,3 +32,27 @@ returns-in-Ok-Some-clause-crash g c s kept =
     let told = rw c.in-Ok-Some.field-0-is at c.in-Ok-Some.ensures.some in
     let tells = subst (IsDeskLine line) (sym c.command.ensures) (record { is_command = told.0; form = told.1 }) in
     undone_more g.K.Keeper c.args.self.now.keeper c.obey.new.self.keeper s _ _ c.obey.result (λ t obeyed. record { command = command; tells = tells; obeyed = obeyed }) (c.obey.ensures.crash s kept tells.form)
+
+pub returns-in-Ok-Some-clause-store : goal.returns-in-Ok-Some-clause-store
+returns-in-Ok-Some-clause-store g c = c.obey.ensures.store
+
+pub returns-in-Ok-Some-clause-same : goal.returns-in-Ok-Some-clause-same
+returns-in-Ok-Some-clause-same g c = c.obey.ensures.same
+
+pub returns-in-Ok-Some-clause-unstaged : goal.returns-in-Ok-Some-clause-unstaged
+returns-in-Ok-Some-clause-unstaged g c = c.obey.ensures.unstaged
+
+pub returns-in-Ok-Some-clause-rest : goal.returns-in-Ok-Some-clause-rest
+returns-in-Ok-Some-clause-rest g c = c.obey.ensures.rest
+
+pub returns-in-Ok-None-clause-unstaged : goal.returns-in-Ok-None-clause-unstaged
+returns-in-Ok-None-clause-unstaged g c = λ none. inl none
+
+pub returns-in-Ok-None-clause-rest : goal.returns-in-Ok-None-clause-rest
+returns-in-Ok-None-clause-rest g c = holds_still
+
+pub returns-in-Err-clause-unstaged : goal.returns-in-Err-clause-unstaged
+returns-in-Err-clause-unstaged g c = λ none. inl none
+
+pub returns-in-Err-clause-rest : goal.returns-in-Err-clause-rest
+returns-in-Err-clause-rest g c = holds_still

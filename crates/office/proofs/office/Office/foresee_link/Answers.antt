@@ -1,6 +1,9 @@
 use Rattle.std.proofs.Common.{refl}
 use Rattle.office.specs.Announcing.{request_with}
 use Rattle.office.proofs.Foreseen.{readable_of}
+use Rattle.office.proofs.Holding.{answered_holds, holds_less, holds_then, refused_holds}
+use Rattle.office.proofs.Endurance.{then_adds}
+use Rattle.links.proofs.Texts.{clash}
 use Rattle.office.proofs.office.Office.foresee_link.Goals as goal
 
 pub returns-in-Err-clause-foresees : goal.returns-in-Err-clause-foresees
@@ -29,3 +32,21 @@ returns-clause-foresees g c s body p kept long is =
 
 pub returns-clause-readable : goal.returns-clause-readable
 returns-clause-readable g c body p is = (p, is)
+
+pub returns-in-Err-clause-crash : goal.returns-in-Err-clause-crash
+returns-in-Err-clause-crash g c = c.in-Err.ensures.crash
+
+pub returns-in-Err-clause-rest : goal.returns-in-Err-clause-rest
+returns-in-Err-clause-rest g c = refused_holds c.in-Err.ensures.rest
+
+pub returns-then-is_given_up-clause-crash : goal.returns-then-is_given_up-clause-crash
+returns-then-is_given_up-clause-crash g c = λ s means honest. then_adds (c.in-Ok.ensures.crash s means (c.foresee_errand-errand.ensures.rest.honest honest)) (c.foresee_errand-errand.ensures.crash s (c.in-Ok.ensures.same s means) honest)
+
+pub returns-then-is_given_up-clause-rest : goal.returns-then-is_given_up-clause-rest
+returns-then-is_given_up-clause-rest g c = holds_then (answered_holds c.in-Ok.ensures.rest) (holds_less (λ _. refl) c.foresee_errand-errand.ensures.rest)
+
+pub returns-clause-crash : goal.returns-clause-crash
+returns-clause-crash g c = λ s means honest. then_adds (c.in-Ok.ensures.crash s means (c.foresee_errand-errand.ensures.rest.honest honest)) (c.foresee_errand-errand.ensures.crash s (c.in-Ok.ensures.same s means) honest)
+
+pub returns-clause-rest : goal.returns-clause-rest
+returns-clause-rest g c = holds_then (answered_holds c.in-Ok.ensures.rest) (holds_less (λ given. absurd (clash c.is_given_up.result c.if-is_given_up.false (c.is_given_up.ensures.1 given))) c.foresee_errand-errand.ensures.rest)

@@ -1,4 +1,4 @@
-use Rattle.std.proofs.Common.{◌≡◌, ◌∙◌, Result, Err, ap, rules}
+use Rattle.std.proofs.Common.{◌≡◌, ◌∙◌, Result, Err, Ok, ap, inl, rules}
 use Rattle.keeper.specs.declared.keep.KeepFault.{KeepFault}
 use Rattle.keeper.specs.declared.keep.KeepFault.TheVariants.{Full}
 use Rattle.office.specs.declared.requests.commanding.DeskFault.{DeskFault}
@@ -8,6 +8,9 @@ use Rattle.boxes.specs.declared.change.Change.TheVariants as change
 use Rattle.office.specs.Crashes.{changed}
 use Rattle.office.proofs.Endurance.{asked_standing, of_either, then_asked}
 use Rattle.office.proofs.Possible.{decided, obeys}
+use Rattle.office.proofs.Holding.{holds_less, holds_then}
+use Rattle.office.proofs.Unstaged.{asked_holds, failed_holds}
+use Rattle.office.proofs.KeeperCalls.{changed_holds}
 use Rattle.office.proofs.office.Office.obey.Goals as goal
 
 pub returns-in-Ok-apply-clause-does : goal.returns-in-Ok-apply-clause-does
@@ -51,3 +54,36 @@ returns-clause-crash g c s kept form =
     let it = obeys s command form possible in
     then_asked (asked_standing c.look_at.ensures.rest kept.means before)
     (of_either it.1 (c.in-Err-apply.ensures.crash s it.0 (c.look_at.ensures.rest.same s kept.means) kept.sound it.1 kept.is_honest))
+
+pub returns-in-Err-clause-rest : goal.returns-in-Err-clause-rest
+returns-in-Err-clause-rest g c = failed_holds g.K.Keeper _ _ _ c.in-Err.ensures.rest tt
+
+pub returns-in-Err-clause-unstaged : goal.returns-in-Err-clause-unstaged
+returns-in-Err-clause-unstaged g c = λ none. inl (c.look_at.ensures.staged _ none)
+
+pub returns-in-Err-clause-same : goal.returns-in-Err-clause-same
+returns-in-Err-clause-same g c = c.look_at.ensures.rest.same
+
+pub returns-then-is_err-clause-rest : goal.returns-then-is_err-clause-rest
+returns-then-is_err-clause-rest g c = asked_holds g.K.Keeper _ _ _ c.in-Ok.ensures.rest
+
+pub returns-then-is_err-clause-unstaged : goal.returns-then-is_err-clause-unstaged
+returns-then-is_err-clause-unstaged g c = λ none. inl (c.look_at.ensures.staged _ none)
+
+pub returns-then-is_err-clause-same : goal.returns-then-is_err-clause-same
+returns-then-is_err-clause-same g c = c.look_at.ensures.rest.same
+
+pub returns-then-is_err-clause-crash : goal.returns-then-is_err-clause-crash
+returns-then-is_err-clause-crash g c = λ s kept form. asked_standing c.look_at.ensures.rest kept.means kept.is_honest
+
+pub returns-in-Ok-apply-clause-rest : goal.returns-in-Ok-apply-clause-rest
+returns-in-Ok-apply-clause-rest g c = holds_then (asked_holds g.K.Keeper _ _ _ c.in-Ok.ensures.rest) (holds_less (λ is. absurd is) (changed_holds (Ok tt) c.in-Ok-apply.ensures.honest c.in-Ok-apply.ensures.opened c.in-Ok-apply.ensures.count))
+
+pub returns-clause-rest : goal.returns-clause-rest
+returns-clause-rest g c = holds_then (asked_holds g.K.Keeper _ _ _ c.in-Ok.ensures.rest) (holds_less (λ _. tt) (changed_holds {T = Unit {0}} (Err c.in-Err-apply.fault) c.in-Err-apply.ensures.honest c.in-Err-apply.ensures.opened c.in-Err-apply.ensures.count))
+
+pub returns-clause-same : goal.returns-clause-same
+returns-clause-same g c = λ s means. c.in-Err-apply.ensures.same s (c.look_at.ensures.rest.same s means)
+
+pub returns-in-Ok-apply-clause-unstaged : goal.returns-in-Ok-apply-clause-unstaged
+returns-in-Ok-apply-clause-unstaged g c = λ none. inl (c.in-Ok-apply.ensures.staged (λ is. is) _ (c.look_at.ensures.staged _ none))

@@ -1,10 +1,11 @@
-use Rattle.std.proofs.Common.{◌∙◌, codes, sym, subst, rules}
+use Rattle.std.proofs.Common.{◌∙◌, codes, sym, subst, rules, inl, refl}
 use Rattle.sigtext.specs.declared.refusal.Refusal.TheVariants as rule
 use Rattle.links.specs.WellFormed.{HasValue}
 use Rattle.links.proofs.Texts.{texts_differ, texts_equal}
 use Rattle.office.specs.Crashes.{Endures}
-use Rattle.office.proofs.Endurance.{more_asked, refused_asked, refused_same}
+use Rattle.office.proofs.Endurance.{more_asked, refused_asked, refused_same, still}
 use Rattle.office.proofs.Obeyed.{asked_by, elsewhere, no_line, not_given, not_obeyed, obeyed}
+use Rattle.office.proofs.Holding.{holds_less, holds_still}
 use Rattle.office.proofs.office.Office.post.Goals as goal
 
 pub returns-then-ne-clause-replies : goal.returns-then-ne-clause-replies
@@ -53,3 +54,72 @@ returns-clause-crash g c s r p now kept is is_post reached =
     let given = subst (HasValue p.params (codes "desk")) (sym c.deref.ensures.value) (rw c.in-Ok-Some.field-0-is at (c.in-Ok-Some.ensures.found r p is)) in
     refused_asked
     (more_asked (asked_by means s r now p reached is_post c.deref.result.now at given) (rw c.in-Err-Kept.field-0-is at (c.in-Err-Kept.ensures.crash s kept)))
+
+pub returns-in_default-clause-crash : goal.returns-in_default-clause-crash
+returns-in_default-clause-crash g c s r p now kept is is_post reached = refused_same rule.TryAgain still
+
+pub returns-in_default-clause-unstaged : goal.returns-in_default-clause-unstaged
+returns-in_default-clause-unstaged g c = λ none. inl none
+
+pub returns-in_default-clause-rest : goal.returns-in_default-clause-rest
+returns-in_default-clause-rest g c = holds_still
+
+pub returns-then-ne-clause-crash : goal.returns-then-ne-clause-crash
+returns-then-ne-clause-crash g c s r p now kept is is_post reached = refused_same rule.CommandMalformed still
+
+pub returns-then-ne-clause-unstaged : goal.returns-then-ne-clause-unstaged
+returns-then-ne-clause-unstaged g c = λ none. inl none
+
+pub returns-then-ne-clause-rest : goal.returns-then-ne-clause-rest
+returns-then-ne-clause-rest g c = holds_still
+
+pub returns-in-Ok-None-clause-crash : goal.returns-in-Ok-None-clause-crash
+returns-in-Ok-None-clause-crash g c s r p now kept is is_post reached = refused_same rule.CommandMalformed still
+
+pub returns-in-Ok-None-clause-unstaged : goal.returns-in-Ok-None-clause-unstaged
+returns-in-Ok-None-clause-unstaged g c = λ none. inl none
+
+pub returns-in-Ok-None-clause-rest : goal.returns-in-Ok-None-clause-rest
+returns-in-Ok-None-clause-rest g c = holds_still
+
+pub returns-in-Err-clause-crash : goal.returns-in-Err-clause-crash
+returns-in-Err-clause-crash g c s r p now kept is is_post reached = refused_same rule.TryAgain still
+
+pub returns-in-Err-clause-unstaged : goal.returns-in-Err-clause-unstaged
+returns-in-Err-clause-unstaged g c = λ none. inl none
+
+pub returns-in-Err-clause-rest : goal.returns-in-Err-clause-rest
+returns-in-Err-clause-rest g c = holds_still
+
+pub returns-in-Ok-desk-clause-unstaged : goal.returns-in-Ok-desk-clause-unstaged
+returns-in-Ok-desk-clause-unstaged g c = c.desk.ensures.unstaged
+
+pub returns-in-Ok-desk-clause-rest : goal.returns-in-Ok-desk-clause-rest
+returns-in-Ok-desk-clause-rest g c = holds_less (λ is. absurd is) c.in-Ok-desk.ensures.rest
+
+pub returns-in-Err-Malformed-clause-unstaged : goal.returns-in-Err-Malformed-clause-unstaged
+returns-in-Err-Malformed-clause-unstaged g c = c.desk.ensures.unstaged
+
+pub returns-in-Err-Malformed-clause-same : goal.returns-in-Err-Malformed-clause-same
+returns-in-Err-Malformed-clause-same g c = c.in-Err-Malformed.ensures.same
+
+pub returns-in-Err-Malformed-clause-rest : goal.returns-in-Err-Malformed-clause-rest
+returns-in-Err-Malformed-clause-rest g c = holds_less (λ (is : ⊥). absurd is) (rw c.in-Err-Malformed.field-0-is at c.in-Err-Malformed.ensures.rest)
+
+pub returns-in-Err-NotPossible-clause-unstaged : goal.returns-in-Err-NotPossible-clause-unstaged
+returns-in-Err-NotPossible-clause-unstaged g c = c.desk.ensures.unstaged
+
+pub returns-in-Err-NotPossible-clause-same : goal.returns-in-Err-NotPossible-clause-same
+returns-in-Err-NotPossible-clause-same g c = c.in-Err-NotPossible.ensures.same
+
+pub returns-in-Err-NotPossible-clause-rest : goal.returns-in-Err-NotPossible-clause-rest
+returns-in-Err-NotPossible-clause-rest g c = holds_less (λ (is : ⊥). absurd is) (rw c.in-Err-NotPossible.field-0-is at c.in-Err-NotPossible.ensures.rest)
+
+pub returns-clause-unstaged : goal.returns-clause-unstaged
+returns-clause-unstaged g c = c.desk.ensures.unstaged
+
+pub returns-clause-same : goal.returns-clause-same
+returns-clause-same g c = c.in-Err-Kept.ensures.same
+
+pub returns-clause-rest : goal.returns-clause-rest
+returns-clause-rest g c = holds_less (λ _. refl) c.in-Err-Kept.ensures.rest

@@ -12,7 +12,9 @@ use Rattle.office.specs.Rules.{place_of, upload_of}
 use Rattle.office.proofs.Endurance.{asked_standing, refused_adds, then_adds, then_replied, unset}
 use Rattle.office.proofs.Foreseen.{denied, no_reply, told}
 use Rattle.office.proofs.Replies.{asks, brought, again, not_put, sets, set_replied}
-use Rattle.office.proofs.Unstaged.{ends_later, rose_least}
+use Rattle.office.proofs.Unstaged.{ends_later, rose_least, asked_holds, then_holds}
+use Rattle.office.proofs.Holding.{holds_then}
+use Rattle.office.proofs.KeeperCalls.{called_holds, on_err_too}
 use Rattle.office.proofs.office.Office.put.Goals as goal
 
 -- ---- the keeper did not tell what is stored
@@ -134,3 +136,27 @@ returns-clause-crash g c s r p kept is is_put reached path box staged =
 
 pub returns-clause-unstaged : goal.returns-clause-unstaged
 returns-clause-unstaged g c = ends_later g.K.Keeper c.args.self.now.keeper c.look_up.new.self.keeper c.set_file.new.self.keeper (omega (arith, c.in-Ok.ensures.rest.count.ok)) c.set_file.ensures.unstaged
+
+pub returns-in_default-clause-same : goal.returns-in_default-clause-same
+returns-in_default-clause-same g c = λ s means. on_err_too c.let_go.result (c.let_go.ensures.same s (c.in_default.ensures.rest.same s means))
+
+pub returns-in_default-clause-rest : goal.returns-in_default-clause-rest
+returns-in_default-clause-rest g c = then_holds (called_holds c.look_up.result c.look_up.ensures.rest) c.let_go.ensures.rest (λ not fault. not (c.let_go.ensures.gives not)) (λ not given. not given)
+
+pub returns-in-Refused-clause-same : goal.returns-in-Refused-clause-same
+returns-in-Refused-clause-same g c = λ s means. on_err_too c.let_go-in-Refused.result (c.let_go-in-Refused.ensures.same s (c.in-Ok.ensures.rest.same s means))
+
+pub returns-in-Refused-clause-rest : goal.returns-in-Refused-clause-rest
+returns-in-Refused-clause-rest g c = holds_then (asked_holds g.K.Keeper _ _ _ c.in-Ok.ensures.rest) c.let_go-in-Refused.ensures.rest
+
+pub returns-in-Again-clause-same : goal.returns-in-Again-clause-same
+returns-in-Again-clause-same g c = λ s means. on_err_too c.let_go-in-Again.result (c.let_go-in-Again.ensures.same s (c.in-Ok.ensures.rest.same s means))
+
+pub returns-in-Again-clause-rest : goal.returns-in-Again-clause-rest
+returns-in-Again-clause-rest g c = holds_then (asked_holds g.K.Keeper _ _ _ c.in-Ok.ensures.rest) c.let_go-in-Again.ensures.rest
+
+pub returns-clause-same : goal.returns-clause-same
+returns-clause-same g c = λ s means. c.set_file.ensures.same s (c.in-Ok.ensures.rest.same s means)
+
+pub returns-clause-rest : goal.returns-clause-rest
+returns-clause-rest g c = holds_then (asked_holds g.K.Keeper _ _ _ c.in-Ok.ensures.rest) c.set_file.ensures.rest

@@ -1,0 +1,5 @@
+use Rattle.office.proofs.Questions.{stays_ok, stays_then}
+use Rattle.office.proofs.office.Office.ask_office.Goals as goal
+
+pub returns-clause-rest : goal.returns-clause-rest
+returns-clause-rest g c = stays_then g.K.Keeper c.in_ok-office.ensures.rest (stays_then g.K.Keeper c.in_ok-totals.ensures.rest (stays_ok g.K.Keeper c.in_ok-next_number.ensures.rest))

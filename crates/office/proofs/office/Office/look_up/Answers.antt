@@ -1,0 +1,5 @@
+use Rattle.office.proofs.Questions.{stays_ok, stays_then}
+use Rattle.office.proofs.office.Office.look_up.Goals as goal
+
+pub returns-clause-rest : goal.returns-clause-rest
+returns-clause-rest g c = stays_then g.K.Keeper c.in_ok-office.ensures.rest (stays_ok g.K.Keeper c.in_ok-standing.ensures.rest)

@@ -1,0 +1,5 @@
+use Rattle.office.proofs.Questions.{stays_ok, stays_then}
+use Rattle.office.proofs.office.Office.view_limit.Goals as goal
+
+pub returns-clause-rest : goal.returns-clause-rest
+returns-clause-rest g c = stays_then g.K.Keeper c.in_ok-key.ensures.rest (stays_then g.K.Keeper c.in_ok-has_box.ensures.rest (stays_ok g.K.Keeper c.in_ok-has_limit.ensures.rest))
