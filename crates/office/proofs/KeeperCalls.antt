@@ -78,6 +78,12 @@ pub unstaged_after : {K : Type 0} (k : Ghosts K) (a b c : K) (upload : Bool) →
 unstaged_after k a b c true same keeps ends stays = λ none. ends_later k a b c (omega (arith, same)) (ends refl)
 unstaged_after k a b c false same keeps ends stays = λ none. ends_later k a b c (omega (arith, same)) (stays (keeps refl [] none))
 
+-- nothing is, after what is to be staged was used up
+pub unstaged_served : {K : Type 0} (k : Ghosts K) (a b c : K) (upload : Bool) {Upload : Type 0} → k.faults a ≤ k.faults b → (IsFalse upload → KeepsStaged k.stages a b) → (IsTrue upload → Upload)
+    → (Upload ⊎ k.stages b [] → EndsUnstaged k b c) → StaysUnstaged k a c
+unstaged_served k a b c true less keeps is ends = λ none. ends_later k a b c less (ends (inl (is refl)))
+unstaged_served k a b c false less keeps is ends = λ none. ends_later k a b c less (ends (inr (keeps refl [] none)))
+
 -- two calls in a row, whatever they gave up
 pub unstaged_then : {K : Type 0} (k : Ghosts K) (a b c : K) → StaysUnstaged k a b → k.faults a ≤ k.faults b → StaysUnstaged k b c → k.faults b ≤ k.faults c → StaysUnstaged k a c
 unstaged_then k a b c first less second more = λ none.

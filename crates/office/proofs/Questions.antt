@@ -1,11 +1,15 @@
 -- Several questions in a row: what each leaves of the keeper, they leave together.
-use Rattle.std.proofs.Common.{ℕ, ⊎_elim, inl, inr, Result, Ok, subst}
+use Rattle.std.proofs.Common.{ℕ, ⊎_elim, inl, inr, Result, Ok, refl, subst}
 use Rattle.sigtext.specs.Counts.{CountsErrors}
 use Rattle.keeper.specs.Bound.{StaysBy}
 use Rattle.keeper.specs.declared.keep.KeepFault.{KeepFault}
 use Rattle.keeper.specs.declared.keep.Keeper.{Ghosts}
 
 module _ {K : Type 0} (k : Ghosts K) where
+  -- nothing was asked
+  pub stays_still : {T : Type 0} {a : K} {x : T} → StaysBy k a a (Ok x)
+  stays_still = record { same = λ s means. means; honest = λ is. is; opened = λ is was. was; count = record { err = tt; ok = refl }; room = tt; store = λ is. absurd cc; crash = λ s t means is at. inl at; whole = λ s means is was. was }
+
   -- an answer, whatever is made of it
   pub stays_ok : {T U : Type 0} {a b : K} {x : T} {y : U} → StaysBy k a b (Ok x) → StaysBy k a b (Ok y)
   stays_ok rest = record { same = rest.same; honest = rest.honest; opened = rest.opened; count = record { err = tt; ok = rest.count.ok }; room = tt; store = λ is. absurd cc; crash = rest.crash; whole = rest.whole }

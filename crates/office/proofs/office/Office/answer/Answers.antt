@@ -1,4 +1,4 @@
-use Rattle.std.proofs.Common.{◌∙◌, ap, rules, subst, sym}
+use Rattle.std.proofs.Common.{◌∙◌, ap, inr, rules, subst, sym, arith}
 use Rattle.sigtext.specs.Request.{Request}
 use Rattle.wire.specs.Messages.{request_in}
 use Rattle.office.specs.Announcing.{request_with}
@@ -6,9 +6,10 @@ use Rattle.office.specs.Answering.{is_head}
 use Rattle.office.specs.Foreseeing.{Foresees}
 use Rattle.office.specs.Readable.{IsReadable}
 use Rattle.office.proofs.Alikeness.{the_answer}
-use Rattle.office.proofs.Endurance.{then_adds, then_answered, then_asked}
+use Rattle.office.proofs.Endurance.{adds_less, then_adds, then_answered, then_asked}
 use Rattle.office.proofs.Foreseen.{no_fault, of_err, of_ok, upload_readable}
-use Rattle.office.proofs.Unstaged.{then_holds}
+use Rattle.office.proofs.Unstaged.{rose_later, then_holds}
+use Rattle.office.proofs.KeeperCalls.{unstaged_served}
 use Rattle.office.proofs.office.Office.answer.Goals as goal
 
 pub returns-then-is_err-clause-readable : goal.returns-then-is_err-clause-readable
@@ -73,3 +74,26 @@ returns-clause-crash g c s kept again =
       length_is = search rules;
       digest = c.digest.ensures;
     }) again)
+
+pub returns-then-is_err-clause-rest : goal.returns-then-is_err-clause-rest
+returns-then-is_err-clause-rest g c = then_holds c.foresee-foreseen.ensures.rest c.stage_upload.ensures.rest (λ not _. not c.refused.ensures.reply) (λ not _. not c.refused.ensures.reply)
+
+pub returns-then-is_err-clause-unstaged : goal.returns-then-is_err-clause-unstaged
+returns-then-is_err-clause-unstaged g c = λ none. inr (rose_later _ _ _ c.foresee-foreseen.ensures.rest.never_less (of_err c.stage_upload.result c.if-is_err.ensures.value c.stage_upload.ensures.fault))
+
+pub returns-clause-again : goal.returns-clause-again
+returns-clause-again g c = λ again s means. c.answer_whole.ensures.again again s (c.stage_upload.ensures.same s (c.foresee-foreseen.ensures.same s means))
+
+pub returns-clause-unstaged : goal.returns-clause-unstaged
+returns-clause-unstaged g c = unstaged_served g.K.Keeper c.args.self.now.keeper c.stage_upload.new.self.keeper c.answer_whole.new.self.keeper c.is_upload-upload.result (let first = c.foresee-foreseen.ensures.rest.never_less in let second = c.stage_upload.ensures.rest.never_less in omega (arith, first, second)) (λ no bytes at. c.stage_upload.ensures.passed no bytes (c.foresee-foreseen.ensures.staged bytes at)) c.is_upload-upload.ensures.0 c.answer_whole.ensures.unstaged
+
+pub returns-then-is_err-clause-answers : goal.returns-then-is_err-clause-answers
+returns-then-is_err-clause-answers g c s kept other = absurd (other c.refused.ensures.reply)
+
+pub returns-then-is_err-clause-again : goal.returns-then-is_err-clause-again
+returns-then-is_err-clause-again g c again s means = c.stage_upload.ensures.same s (c.foresee-foreseen.ensures.same s means)
+
+pub returns-then-is_err-clause-crash : goal.returns-then-is_err-clause-crash
+returns-then-is_err-clause-crash g c s kept again =
+    let means = c.foresee-foreseen.ensures.same s kept.means in
+    adds_less (then_adds (c.foresee-foreseen.ensures.crash s kept.means (c.stage_upload.ensures.rest.honest kept.is_honest)) (c.stage_upload.ensures.crash s means kept.is_honest))

@@ -1,4 +1,4 @@
-use Rattle.std.proofs.Common.{◌≡◌, ℕ, refl, subst}
+use Rattle.std.proofs.Common.{◌≡◌, ℕ, refl, subst, inl, inr, ⊎_elim}
 use Rattle.std.specs.Prelude.{OnErr}
 use Rattle.sigtext.specs.Counts.{Rose}
 use Rattle.office.specs.Connections.{MayGiveUp}
@@ -7,10 +7,11 @@ use Rattle.office.specs.declared.connections.handling.Handled.TheVariants as han
 use Rattle.office.specs.declared.requests.foreseeing.Body.{Body}
 use Rattle.office.specs.declared.connections.receiving.Received.TheVariants as received
 use Rattle.office.proofs.BodySteps.{broken_off_step, came_whole, given_up_step, lacking_step, whole_step}
-use Rattle.office.proofs.KeeperCalls.{Quiet, quiet_both, quiet_less, quiet_then, unstaged_after}
+use Rattle.office.proofs.KeeperCalls.{Quiet, quiet_both, quiet_less, quiet_then, unstaged_after, unstaged_served}
 use Rattle.office.proofs.Holding.{holds_less, holds_then}
 use Rattle.office.proofs.SessionSteps.{before_quiet}
-use Rattle.office.proofs.Unstaged.{broke_off_holds, may_later}
+use Rattle.office.proofs.Unstaged.{broke_off_holds, may_later, then_holds}
+use Rattle.office.proofs.Handlings.{closed_again}
 use Rattle.office.proofs.office.Office.serve_body.Goals as goal
 
 pub returns-in-Answered-clause-steps : goal.returns-in-Answered-clause-steps
@@ -109,3 +110,25 @@ pub returns-in-Broken-clause-rest : goal.returns-in-Broken-clause-rest
 returns-in-Broken-clause-rest g c =
     let first = c.in-Broken.ensures.rest in
     broke_off_holds g.K.Keeper c.args.self.now.keeper c.receive.new.self.keeper c.drop_staged.new.self.keeper c.drop_staged.result (holds_less (λ e. absurd cc) first) c.drop_staged.ensures.rest c.drop_staged.ensures.counts
+
+pub returns-in-Answered-clause-unstaged : goal.returns-in-Answered-clause-unstaged
+returns-in-Answered-clause-unstaged g c = unstaged_served g.K.Keeper c.args.self.now.keeper c.receive.new.self.keeper c.serve_message.new.self.keeper c.is_upload-upload.result c.in-Whole.ensures.rest.never_less c.in-Whole.ensures.passed c.is_upload-upload.ensures.0 c.serve_message.ensures.unstaged
+
+pub returns-in-Answered-clause-rest : goal.returns-in-Answered-clause-rest
+returns-in-Answered-clause-rest g c = holds_then (holds_less (λ e. absurd cc) c.in-Whole.ensures.rest) (holds_less (λ may. ⊎_elim (λ e. absurd cc) (λ e. absurd cc) may) c.in-Answered.ensures.rest)
+
+pub returns-in-GaveUp-serve_message-clause-unstaged : goal.returns-in-GaveUp-serve_message-clause-unstaged
+returns-in-GaveUp-serve_message-clause-unstaged g c = unstaged_served g.K.Keeper c.args.self.now.keeper c.receive.new.self.keeper c.serve_message.new.self.keeper c.is_upload-upload.result c.in-Whole.ensures.rest.never_less c.in-Whole.ensures.passed c.is_upload-upload.ensures.0 c.serve_message.ensures.unstaged
+
+pub returns-in-GaveUp-serve_message-clause-rest : goal.returns-in-GaveUp-serve_message-clause-rest
+returns-in-GaveUp-serve_message-clause-rest g c = holds_then (holds_less (λ e. absurd cc) c.in-Whole.ensures.rest) (holds_less (λ _. inl refl) c.in-GaveUp-serve_message.ensures.rest)
+
+pub returns-in-Broken-serve_message-clause-unstaged : goal.returns-in-Broken-serve_message-clause-unstaged
+returns-in-Broken-serve_message-clause-unstaged g c = unstaged_served g.K.Keeper c.args.self.now.keeper c.receive.new.self.keeper c.serve_message.new.self.keeper c.is_upload-upload.result c.in-Whole.ensures.rest.never_less c.in-Whole.ensures.passed c.is_upload-upload.ensures.0 c.serve_message.ensures.unstaged
+
+pub returns-in-Broken-serve_message-clause-rest : goal.returns-in-Broken-serve_message-clause-rest
+returns-in-Broken-serve_message-clause-rest g c = holds_then (holds_less (λ e. absurd cc) c.in-Whole.ensures.rest) (holds_less (λ _. inr (inl refl)) c.in-Broken-serve_message.ensures.rest)
+
+pub returns-in-GaveUp-clause-rest : goal.returns-in-GaveUp-clause-rest
+returns-in-GaveUp-clause-rest g c = let may = closed_again g.K.Keeper c.args.self.now.keeper c.drop_staged-in-GaveUp.new.self.keeper _ _ c.close.result c.close.ensures.closed in
+    then_holds c.in-GaveUp.ensures.rest c.drop_staged-in-GaveUp.ensures.rest (λ not _. not may) (λ not _. not may)

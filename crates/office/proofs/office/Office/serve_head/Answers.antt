@@ -1,5 +1,5 @@
 use Rattle.std.proofs.lemmas.Bool.{both_ways}
-use Rattle.std.proofs.Common.{◌≡◌, ◌∙◌, List, ℕ, [], ap, map, subst, take}
+use Rattle.std.proofs.Common.{◌≡◌, ◌∙◌, List, ℕ, [], ap, map, subst, take, inl}
 use Rattle.sigtext.specs.Fields.{header_of}
 use Rattle.sigtext.specs.Request.{Request}
 use Rattle.wire.specs.Feeds.{left, reader_of}
@@ -10,11 +10,11 @@ use Rattle.office.specs.Premise.{IsGivenUp}
 use Rattle.office.specs.Readable.{IsReadable}
 use Rattle.office.specs.Stepping.{IsExpected}
 use Rattle.office.proofs.BodySteps.{head_given_up_step}
-use Rattle.office.proofs.Handlings.{read_given_up, same_request}
+use Rattle.office.proofs.Handlings.{read_given_up, same_request, closed_again}
 use Rattle.office.proofs.Holding.{holds_less, holds_then}
 use Rattle.office.proofs.KeeperCalls.{Quiet}
 use Rattle.office.proofs.SessionSteps.{before_quiet, steps_after}
-use Rattle.office.proofs.Unstaged.{some_may_later}
+use Rattle.office.proofs.Unstaged.{some_may_later, ends_later}
 use Rattle.office.proofs.office.Office.serve_head.Goals as goal
 
 pub returns-then-is_given_up-clause-steps : goal.returns-then-is_given_up-clause-steps
@@ -64,3 +64,12 @@ pub returns-clause-rest : goal.returns-clause-rest
 returns-clause-rest g c =
     holds_then (holds_less (λ is. both_ways c.is_given_up.result c.if-is_given_up.false (c.is_given_up.ensures.1 is)) c.foresee-foreseen.ensures.rest)
     (holds_less (some_may_later g.K.Keeper c.args.self.now.keeper c.foresee-foreseen.new.self.keeper c.serve_body.new.self.keeper c.serve_body.result c.foresee-foreseen.ensures.rest.never_less) c.serve_body.ensures.rest)
+
+pub returns-then-is_given_up-clause-unstaged : goal.returns-then-is_given_up-clause-unstaged
+returns-then-is_given_up-clause-unstaged g c = λ none. inl (c.foresee-foreseen.ensures.staged _ none)
+
+pub returns-then-is_given_up-clause-rest : goal.returns-then-is_given_up-clause-rest
+returns-then-is_given_up-clause-rest g c = holds_less (λ _. closed_again g.K.Keeper _ _ _ _ c.close.result c.close.ensures.closed) c.foresee-foreseen.ensures.rest
+
+pub returns-clause-unstaged : goal.returns-clause-unstaged
+returns-clause-unstaged g c = λ none. ends_later g.K.Keeper _ _ _ c.foresee-foreseen.ensures.rest.never_less (c.serve_body.ensures.unstaged (c.foresee-foreseen.ensures.staged _ none))

@@ -1,4 +1,6 @@
 use Rattle.links.proofs.WrittenBytes.{are_bytes}
+use Rattle.office.proofs.Holding.{holds_still}
+use Rattle.office.proofs.Endurance.{asked_standing, still, then_adds}
 use Rattle.office.proofs.office.Office.stage_upload.Goals as goal
 
 pub returns-then-not-is_upload-clause-octets : goal.returns-then-not-is_upload-clause-octets
@@ -9,3 +11,18 @@ returns-then-is_err-clause-octets g c = are_bytes c.args.body.now c.type_inv.bod
 
 pub returns-else-is_err-clause-octets : goal.returns-else-is_err-clause-octets
 returns-else-is_err-clause-octets g c = are_bytes c.args.body.now c.type_inv.body
+
+pub returns-then-not-is_upload-clause-crash : goal.returns-then-not-is_upload-clause-crash
+returns-then-not-is_upload-clause-crash g c = λ s means honest. still
+
+pub returns-then-not-is_upload-clause-rest : goal.returns-then-not-is_upload-clause-rest
+returns-then-not-is_upload-clause-rest g c = holds_still
+
+pub returns-then-is_err-clause-crash : goal.returns-then-is_err-clause-crash
+returns-then-is_err-clause-crash g c = λ s means honest. then_adds (c.stage_whole-staged.ensures.crash s means (c.stage_drop.ensures.rest.honest honest)) (asked_standing c.stage_drop.ensures.rest (c.stage_whole-staged.ensures.same s means) honest)
+
+pub returns-else-is_err-clause-crash : goal.returns-else-is_err-clause-crash
+returns-else-is_err-clause-crash g c = c.stage_whole-staged.ensures.crash
+
+pub returns-else-is_err-clause-rest : goal.returns-else-is_err-clause-rest
+returns-else-is_err-clause-rest g c = c.stage_whole-staged.ensures.rest

@@ -4,6 +4,7 @@ use Rattle.wire.specs.declared.fault.WireFault.TheVariants as fault
 use Rattle.wire.specs.declared.joining.Came.TheVariants as came
 use Rattle.wire.specs.Feeding.{a_head}
 use Rattle.office.proofs.SessionSteps.{brought_by, broke_off_by, ended_step, truncated_step, read_failed_step, closed_step, gave_up_reading_step, leaves_still}
+use Rattle.office.proofs.Holding.{holds_still}
 use Rattle.office.proofs.office.Office.step.Goals as goal
 
 pub returns-in-Ok-Head-clause-steps : goal.returns-in-Ok-Head-clause-steps
@@ -49,3 +50,39 @@ returns-in-Err-Memory-clause-steps g c s kept =
     gave_up_reading_step g.C.Clock.now_gives (place_of c.args.feed.now) (left g.R.Read.remaining c.args.feed.now) (left g.R.Read.remaining c.read_opening.new.feed)
     (g.R.Read.remaining (reader_of c.read_opening.new.feed).inner) (g.W.Write.contents c.args.writer.now.inner) (g.W.Write.contents c.close-in-Err-Memory.new.writer.inner)
     c.args.clock.now g.K.Keeper c.args.self.now.keeper c.args.self.now.keeper s c.close-in-Err-Memory.result [] (leaves_still g.K.Keeper c.args.self.now.keeper s true (record { means = kept.means; sound = kept.sound })) b.1 (inl (b.0, refl)) c.close-in-Err-Memory.ensures.closed
+
+pub returns-in-Ok-Head-clause-unstaged : goal.returns-in-Ok-Head-clause-unstaged
+returns-in-Ok-Head-clause-unstaged g c = c.serve_head.ensures.unstaged
+
+pub returns-in-Ok-Head-clause-rest : goal.returns-in-Ok-Head-clause-rest
+returns-in-Ok-Head-clause-rest g c = c.serve_head.ensures.rest
+
+pub returns-in-Ok-Refused-clause-unstaged : goal.returns-in-Ok-Refused-clause-unstaged
+returns-in-Ok-Refused-clause-unstaged g c = λ none. inl none
+
+pub returns-in-Ok-Refused-clause-rest : goal.returns-in-Ok-Refused-clause-rest
+returns-in-Ok-Refused-clause-rest g c = holds_still
+
+pub returns-in-Ok-End-clause-unstaged : goal.returns-in-Ok-End-clause-unstaged
+returns-in-Ok-End-clause-unstaged g c = λ none. inl none
+
+pub returns-in-Ok-End-clause-rest : goal.returns-in-Ok-End-clause-rest
+returns-in-Ok-End-clause-rest g c = holds_still
+
+pub returns-in-Ok-Truncated-clause-unstaged : goal.returns-in-Ok-Truncated-clause-unstaged
+returns-in-Ok-Truncated-clause-unstaged g c = λ none. inl none
+
+pub returns-in-Ok-Truncated-clause-rest : goal.returns-in-Ok-Truncated-clause-rest
+returns-in-Ok-Truncated-clause-rest g c = holds_still
+
+pub returns-in-Err-Read-clause-unstaged : goal.returns-in-Err-Read-clause-unstaged
+returns-in-Err-Read-clause-unstaged g c = λ none. inl none
+
+pub returns-in-Err-Read-clause-rest : goal.returns-in-Err-Read-clause-rest
+returns-in-Err-Read-clause-rest g c = holds_still
+
+pub returns-in-Err-Memory-clause-unstaged : goal.returns-in-Err-Memory-clause-unstaged
+returns-in-Err-Memory-clause-unstaged g c = λ none. inl none
+
+pub returns-in-Err-Memory-clause-rest : goal.returns-in-Err-Memory-clause-rest
+returns-in-Err-Memory-clause-rest g c = holds_still

@@ -1,4 +1,4 @@
-use Rattle.std.proofs.Common.{◌∙◌, ◌-◌, None, Some, suc, refl, sym, arith}
+use Rattle.std.proofs.Common.{◌∙◌, ◌-◌, None, Some, suc, refl, sym, arith, inl}
 use Rattle.seats.specs.declared.session.SessionEnd.TheVariants.{Limit}
 use Rattle.seats.specs.Seats.{left_of}
 use Rattle.office.specs.Seats.{had_ended, went_on, ended}
@@ -6,6 +6,7 @@ use Rattle.seats.proofs.Ends.{none_of, some_of}
 use Rattle.office.proofs.SeatTurns.{steps_of}
 use Rattle.wire.specs.declared.feed.Place.TheVariants as place
 use Rattle.office.proofs.SessionSteps.{none_ends, none_gives_up, not_fresh, serves_none}
+use Rattle.office.proofs.Holding.{holds_less, holds_still}
 use Rattle.office.proofs.office.Office.take_turn.Goals as goal
 
 pub returns-then-is_some-clause-turns : goal.returns-then-is_some-clause-turns
@@ -45,3 +46,27 @@ returns-in-Some-clause-turns g c s kept =
       ended (suc (999 - seat.served)) c.in-Some.end was_open refl refl (omega (arith, c.if-seat-ge-MOST_MESSAGES.false))
           last.0 last.1 (last.2 (not_fresh place.Between refl)),
     )
+
+pub returns-then-is_some-clause-unstaged : goal.returns-then-is_some-clause-unstaged
+returns-then-is_some-clause-unstaged g c = λ none. inl none
+
+pub returns-then-is_some-clause-rest : goal.returns-then-is_some-clause-rest
+returns-then-is_some-clause-rest g c = holds_still
+
+pub returns-then-seat-ge-MOST_MESSAGES-clause-unstaged : goal.returns-then-seat-ge-MOST_MESSAGES-clause-unstaged
+returns-then-seat-ge-MOST_MESSAGES-clause-unstaged g c = λ none. inl none
+
+pub returns-then-seat-ge-MOST_MESSAGES-clause-rest : goal.returns-then-seat-ge-MOST_MESSAGES-clause-rest
+returns-then-seat-ge-MOST_MESSAGES-clause-rest g c = holds_still
+
+pub returns-in-None-clause-unstaged : goal.returns-in-None-clause-unstaged
+returns-in-None-clause-unstaged g c = c.step_aside-aside.ensures.unstaged
+
+pub returns-in-Some-clause-unstaged : goal.returns-in-Some-clause-unstaged
+returns-in-Some-clause-unstaged g c = c.step_aside-aside.ensures.unstaged
+
+pub returns-in-None-clause-rest : goal.returns-in-None-clause-rest
+returns-in-None-clause-rest g c = holds_less (λ (is : ⊥). absurd is) (rw c.in-None.is at c.step_aside-aside.ensures.rest)
+
+pub returns-in-Some-clause-rest : goal.returns-in-Some-clause-rest
+returns-in-Some-clause-rest g c = rw c.in-Some.is at c.step_aside-aside.ensures.rest

@@ -16,3 +16,12 @@ returns-clause-turns g c s kept =
 
 pub returns-clause-slot : goal.returns-clause-slot
 returns-clause-slot g c = (c.turn_slot.new.slot, refl)
+
+pub returns-clause-honest : goal.returns-clause-honest
+returns-clause-honest g c = c.turn_slot.ensures.honest
+
+pub returns-clause-unstaged : goal.returns-clause-unstaged
+returns-clause-unstaged g c = c.turn_slot.ensures.unstaged
+
+pub returns-clause-never_less : goal.returns-clause-never_less
+returns-clause-never_less g c = c.turn_slot.ensures.never_less
