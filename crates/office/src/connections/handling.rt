@@ -7,7 +7,7 @@ use std::io::Write;
 use wire::{Answer, Counted, put_answer};
 
 /// How a message ended.
-#[derive(Clone, Copy, Debug, PartialEq, Eq)]
+#[derive(Clone, Copy)]
 pub(crate) enum Handled {
     /// The answer was written.
     Answered,

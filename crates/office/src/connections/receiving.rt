@@ -13,7 +13,7 @@ use std::io::Read;
 use wire::{Ending, Feed, Piece, skip_body};
 
 /// How reading a body ended.
-#[derive(Clone, Copy, Debug, PartialEq, Eq)]
+#[derive(Clone, Copy)]
 pub(crate) enum Received {
     /// The whole body came. For a staged body this is its SHA-256 digest.
     Whole([u8; 32]),

@@ -7,7 +7,7 @@ use sigtext::Field;
 use wire::Message;
 
 /// The head of a message, and the length of its body.
-#[derive(Clone, Copy, Debug)]
+#[derive(Clone, Copy)]
 pub(crate) struct Announced<'a> {
     /// The method, as it came.
     pub(crate) method: &'a [u8],

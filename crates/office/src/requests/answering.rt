@@ -74,6 +74,23 @@ impl<K: Keeper> Office<K> {
         }
     }
 
+    // Refuses a message whose body came, once nothing of an upload is staged any more.
+    fn refuse(&mut self, upload: bool, refusal: Refusal) -> Result<Reply, Refusal>
+        ensures gives { (result ≢ Err Refusal.TryAgain) → result ≡ Err refusal }
+        ensures same { (s : State) → K.means self.old.keeper s → K.means self.new.keeper s }
+        ensures crash { (s : State) → K.means self.old.keeper s → K.is_honest self.new.keeper
+            → AddsStanding K.Keeper self.old.keeper self.new.keeper s }
+        ensures unstaged { IsTrue upload ⊎ K.stages self.old.keeper []
+            → EndsUnstaged K.Keeper self.old.keeper self.new.keeper }
+        ensures rest { HoldsUnless K.Keeper self.old.keeper self.new.keeper (IsGivenUp result) }
+    {
+        if upload {
+            self.let_go(Err(refusal))
+        } else {
+            Err(refusal)
+        }
+    }
+
     // The reply, at its moment, to a message whose body came.
     fn finish(&mut self, prospect: Prospect<'_>, body: &Body, now: Moment) -> Result<Reply, Refusal>
         ensures replies { (s : State) (r : Request)
@@ -95,13 +112,7 @@ impl<K: Keeper> Office<K> {
     {
         match self.check_moment(&prospect.link, now) {
             Ok(()) => self.run_errand(prospect, body, now),
-            Err(refusal) => {
-                if is_putting(&prospect.errand) {
-                    self.let_go(Err(refusal))
-                } else {
-                    Err(refusal)
-                }
-            }
+            Err(refusal) => self.refuse(is_putting(&prospect.errand), refusal),
         }
     }
 

@@ -39,7 +39,7 @@ pub(crate) struct Prospect<'a> {
 }
 
 /// What is known of a body that came.
-#[derive(Clone, Copy, Debug)]
+#[derive(Clone, Copy)]
 pub(crate) struct Body {
     /// The length in bytes.
     pub(crate) length: u64,

@@ -11,7 +11,7 @@ use sigtext::cut;
 use std::alloc::{AllocError, Global};
 
 /// The name of a box, and the name of a file in it.
-#[derive(Clone, Copy, Debug)]
+#[derive(Clone, Copy)]
 pub(crate) struct FilePlace<'a> {
     pub(crate) in_box: &'a [u8],
     pub(crate) name: &'a [u8],

@@ -5,6 +5,7 @@ use Rattle.office.proofs.Unstaged.{staged_later, ends_later, then_holds}
 use Rattle.office.proofs.Holding.{answered_holds, given_up_too, holds_then, refused_holds}
 use Rattle.links.proofs.Texts.{clash}
 use Rattle.std.proofs.Common.{inl, inr, ◌∙◌}
+use Rattle.office.proofs.KeeperCalls.{on_err_too}
 use Rattle.office.proofs.office.Office.finish.Goals as goal
 
 pub returns-in-Ok-clause-replies : goal.returns-in-Ok-clause-replies
@@ -23,22 +24,6 @@ returns-in-Ok-clause-crash g c s r kept f staged =
     (c.run_errand.ensures.crash s r f (record { means = c.in-Ok.ensures.same s kept.means; is_honest = kept.is_honest; sound = kept.sound }) admitted
     (λ putting. staged_later c.in-Ok.ensures.staged (staged putting)))
 
-pub returns-then-is_putting-clause-replies : goal.returns-then-is_putting-clause-replies
-returns-then-is_putting-clause-replies g c s r kept f staged =
-    denied (Endures g.K.Keeper c.args.self.now.keeper c.let_go.new.self.keeper s) s r c.args.now c.in-Err.refusal c.let_go.result c.let_go.ensures.gives
-    (λ other. c.in-Err.ensures.admits s r f.parts f.key (record { means = kept.means; is_honest = c.let_go.ensures.rest.honest kept.is_honest; sound = kept.sound }) f.link f.signed other)
-
-pub returns-then-is_putting-clause-crash : goal.returns-then-is_putting-clause-crash
-returns-then-is_putting-clause-crash g c s r kept f staged =
-    refused_adds s r c.args.now c.let_go.result
-    (then_adds (c.in-Err.ensures.crash s kept.means (c.let_go.ensures.rest.honest kept.is_honest)) (c.let_go.ensures.crash s (c.in-Err.ensures.same s kept.means) kept.is_honest))
-
-pub returns-clause-replies : goal.returns-clause-replies
-returns-clause-replies g c s r kept f staged other = c.in-Err.ensures.admits s r f.parts f.key kept f.link f.signed other
-
-pub returns-clause-crash : goal.returns-clause-crash
-returns-clause-crash g c s r kept f staged = refused_same c.in-Err.refusal (c.in-Err.ensures.crash s kept.means kept.is_honest)
-
 pub returns-in-Ok-clause-same : goal.returns-in-Ok-clause-same
 returns-in-Ok-clause-same g c = λ s means. c.run_errand.ensures.same s (c.in-Ok.ensures.same s means)
 
@@ -52,18 +37,25 @@ returns-in-Ok-clause-unstaged g c (inr none) = ends_later g.K.Keeper _ _ _ c.in-
 pub returns-in-Ok-clause-rest : goal.returns-in-Ok-clause-rest
 returns-in-Ok-clause-rest g c = holds_then (answered_holds c.in-Ok.ensures.rest) c.run_errand.ensures.rest
 
-pub returns-then-is_putting-clause-plain : goal.returns-then-is_putting-clause-plain
-returns-then-is_putting-clause-plain g c = no_reply _ c.in-Err.refusal c.let_go.result c.let_go.ensures.gives
+pub returns-in-Err-clause-replies : goal.returns-in-Err-clause-replies
+returns-in-Err-clause-replies g c s r kept f staged =
+    denied (Endures g.K.Keeper c.args.self.now.keeper c.refuse.new.self.keeper s) s r c.args.now c.in-Err.refusal c.refuse.result c.refuse.ensures.gives
+    (λ other. c.in-Err.ensures.admits s r f.parts f.key (record { means = kept.means; is_honest = c.refuse.ensures.rest.honest kept.is_honest; sound = kept.sound }) f.link f.signed other)
 
-pub returns-then-is_putting-clause-unstaged : goal.returns-then-is_putting-clause-unstaged
-returns-then-is_putting-clause-unstaged g c = λ _. ends_later g.K.Keeper _ _ _ c.in-Err.ensures.rest.never_less c.let_go.ensures.unstaged
+pub returns-in-Err-clause-crash : goal.returns-in-Err-clause-crash
+returns-in-Err-clause-crash g c s r kept f staged =
+    refused_adds s r c.args.now c.refuse.result
+    (then_adds (c.in-Err.ensures.crash s kept.means (c.refuse.ensures.rest.honest kept.is_honest)) (c.refuse.ensures.crash s (c.in-Err.ensures.same s kept.means) kept.is_honest))
 
-pub returns-then-is_putting-clause-rest : goal.returns-then-is_putting-clause-rest
-returns-then-is_putting-clause-rest g c = then_holds c.in-Err.ensures.rest c.let_go.ensures.rest (λ not given. not (c.let_go.ensures.gives not ∙ given_up_too c.in-Err.refusal given)) (λ not given. not given)
+pub returns-in-Err-clause-same : goal.returns-in-Err-clause-same
+returns-in-Err-clause-same g c = λ s means. on_err_too c.refuse.result (c.refuse.ensures.same s (c.in-Err.ensures.same s means))
 
-pub returns-clause-rest : goal.returns-clause-rest
-returns-clause-rest g c = refused_holds c.in-Err.ensures.rest
+pub returns-in-Err-clause-plain : goal.returns-in-Err-clause-plain
+returns-in-Err-clause-plain g c = no_reply _ c.in-Err.refusal c.refuse.result c.refuse.ensures.gives
 
-pub returns-clause-unstaged : goal.returns-clause-unstaged
-returns-clause-unstaged g c (inl putting) = absurd (clash c.is_putting.result c.if-is_putting.false (c.is_putting.ensures.1 putting))
-returns-clause-unstaged g c (inr none) = inl (c.in-Err.ensures.staged _ none)
+pub returns-in-Err-clause-unstaged : goal.returns-in-Err-clause-unstaged
+returns-in-Err-clause-unstaged g c (inl putting) = ends_later g.K.Keeper _ _ _ c.in-Err.ensures.rest.never_less (c.refuse.ensures.unstaged (inl (c.is_putting.ensures.1 putting)))
+returns-in-Err-clause-unstaged g c (inr none) = ends_later g.K.Keeper _ _ _ c.in-Err.ensures.rest.never_less (c.refuse.ensures.unstaged (inr (c.in-Err.ensures.staged _ none)))
+
+pub returns-in-Err-clause-rest : goal.returns-in-Err-clause-rest
+returns-in-Err-clause-rest g c = then_holds c.in-Err.ensures.rest c.refuse.ensures.rest (λ not given. not (c.refuse.ensures.gives not ∙ given_up_too c.in-Err.refusal given)) (λ not given. not given)

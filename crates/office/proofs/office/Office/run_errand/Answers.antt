@@ -1,4 +1,4 @@
-use Rattle.std.proofs.Common.{◌≡◌, ◌∙◌, Ok, Err, inl, inr, rules, subst, sym}
+use Rattle.std.proofs.Common.{◌≡◌, ◌∙◌, Ok, Err, ap, inl, inr, subst, sym}
 use Rattle.office.specs.declared.requests.foreseeing.Errand.TheVariants as errand
 use Rattle.office.specs.Foreseeing.{IsPutting}
 use Rattle.office.proofs.Endurance.{refused_adds, refused_same, still}
@@ -7,19 +7,19 @@ use Rattle.office.proofs.office.Office.run_errand.Goals as goal
 
 pub returns-in-Ok-Put-clause-replies : goal.returns-in-Ok-Put-clause-replies
 returns-in-Ok-Put-clause-replies g c s r f kept admitted staged =
-    let same : c.args.prospect.errand ≡ Ok (errand.Put c.in-Ok-Put.path c.in-Ok-Put.in_box) = search rules in
+    let same : c.args.prospect.errand ≡ Ok (errand.Put c.in-Ok-Put.path c.in-Ok-Put.in_box) = c.in-Ok-Put.is ∙ ap Ok c.in-Ok-Put.field-0-is in
     let x = errand_of s r c.args.prospect f c.args.now admitted (errand.Put c.in-Ok-Put.path c.in-Ok-Put.in_box) same in
     c.put.ensures.replies s r f.parts kept f.link x.0.0 x.1 (c.deref.ensures.value ∙ x.0.1) x.0.2 (staged (subst IsPutting (sym same) tt))
 
 pub returns-in-Ok-Put-clause-crash : goal.returns-in-Ok-Put-clause-crash
 returns-in-Ok-Put-clause-crash g c s r f kept admitted staged =
-    let same : c.args.prospect.errand ≡ Ok (errand.Put c.in-Ok-Put.path c.in-Ok-Put.in_box) = search rules in
+    let same : c.args.prospect.errand ≡ Ok (errand.Put c.in-Ok-Put.path c.in-Ok-Put.in_box) = c.in-Ok-Put.is ∙ ap Ok c.in-Ok-Put.field-0-is in
     let x = errand_of s r c.args.prospect f c.args.now admitted (errand.Put c.in-Ok-Put.path c.in-Ok-Put.in_box) same in
     c.put.ensures.crash s r f.parts kept f.link x.0.0 x.1 (c.deref.ensures.value ∙ x.0.1) x.0.2 (staged (subst IsPutting (sym same) tt))
 
 pub returns-in-Ok-Fetch-clause-replies : goal.returns-in-Ok-Fetch-clause-replies
 returns-in-Ok-Fetch-clause-replies g c s r f kept admitted staged =
-    let same : c.args.prospect.errand ≡ Ok errand.Fetch = search rules in
+    let same : c.args.prospect.errand ≡ Ok errand.Fetch = c.in-Ok-Fetch.is ∙ ap Ok c.in-Ok-Fetch.field-0-is in
     let x = errand_of s r c.args.prospect f c.args.now admitted errand.Fetch same in
     c.fetch.ensures.replies s r f.parts c.args.now kept f.link x.0 x.1
 
@@ -28,31 +28,31 @@ returns-in-Ok-Fetch-clause-crash g c s r f kept admitted staged = refused_adds s
 
 pub returns-in-Ok-Fetch-clause-unstaged : goal.returns-in-Ok-Fetch-clause-unstaged
 returns-in-Ok-Fetch-clause-unstaged g c (inl putting) =
-    let same : c.args.prospect.errand ≡ Ok errand.Fetch = search rules in
+    let same : c.args.prospect.errand ≡ Ok errand.Fetch = c.in-Ok-Fetch.is ∙ ap Ok c.in-Ok-Fetch.field-0-is in
     absurd (subst IsPutting same putting)
 returns-in-Ok-Fetch-clause-unstaged g c (inr none) = inl (c.fetch.ensures.staged _ none)
 
 pub returns-in-Ok-Post-clause-replies : goal.returns-in-Ok-Post-clause-replies
 returns-in-Ok-Post-clause-replies g c s r f kept admitted staged =
-    let same : c.args.prospect.errand ≡ Ok errand.Post = search rules in
+    let same : c.args.prospect.errand ≡ Ok errand.Post = c.in-Ok-Post.is ∙ ap Ok c.in-Ok-Post.field-0-is in
     let x = errand_of s r c.args.prospect f c.args.now admitted errand.Post same in
     c.post.ensures.replies s r f.parts c.args.now kept f.link x.0 x.1
 
 pub returns-in-Ok-Post-clause-crash : goal.returns-in-Ok-Post-clause-crash
 returns-in-Ok-Post-clause-crash g c s r f kept admitted staged =
-    let same : c.args.prospect.errand ≡ Ok errand.Post = search rules in
+    let same : c.args.prospect.errand ≡ Ok errand.Post = c.in-Ok-Post.is ∙ ap Ok c.in-Ok-Post.field-0-is in
     let x = errand_of s r c.args.prospect f c.args.now admitted errand.Post same in
     c.post.ensures.crash s r f.parts c.args.now kept f.link x.0 x.1
 
 pub returns-in-Ok-Post-clause-unstaged : goal.returns-in-Ok-Post-clause-unstaged
 returns-in-Ok-Post-clause-unstaged g c (inl putting) =
-    let same : c.args.prospect.errand ≡ Ok errand.Post = search rules in
+    let same : c.args.prospect.errand ≡ Ok errand.Post = c.in-Ok-Post.is ∙ ap Ok c.in-Ok-Post.field-0-is in
     absurd (subst IsPutting same putting)
 returns-in-Ok-Post-clause-unstaged g c (inr none) = c.post.ensures.unstaged none
 
 pub returns-clause-replies : goal.returns-clause-replies
 returns-clause-replies g c s r f kept admitted staged other =
-    let same : c.args.prospect.errand ≡ Err c.in-Err.refusal = search rules in
+    let same : c.args.prospect.errand ≡ Err c.in-Err.refusal = c.in-Err.is in
     refused_of s r c.args.prospect f c.args.now admitted c.in-Err.refusal same other
 
 pub returns-clause-crash : goal.returns-clause-crash
@@ -60,6 +60,6 @@ returns-clause-crash g c s r f kept admitted staged = refused_same c.in-Err.refu
 
 pub returns-clause-unstaged : goal.returns-clause-unstaged
 returns-clause-unstaged g c (inl putting) =
-    let same : c.args.prospect.errand ≡ Err c.in-Err.refusal = search rules in
+    let same : c.args.prospect.errand ≡ Err c.in-Err.refusal = c.in-Err.is in
     absurd (subst IsPutting same putting)
 returns-clause-unstaged g c (inr none) = inl none
