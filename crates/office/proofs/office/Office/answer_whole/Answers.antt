@@ -7,6 +7,7 @@ use Rattle.office.specs.Answering.{accepts, is_head, shown}
 use Rattle.office.specs.Crashes.{unchanged}
 use Rattle.office.proofs.Answered.{again_is, is_again, refused_text}
 use Rattle.office.proofs.Foreseen.{err_is, ok_no_err}
+use Rattle.office.proofs.Holding.{answered_holds, holds_less}
 use Rattle.office.proofs.office.Office.answer_whole.Goals as goal
 
 pub returns-in-Ok-clause-answers : goal.returns-in-Ok-clause-answers
@@ -44,3 +45,24 @@ returns-in-Ok-clause-given_up g c given = absurd (ok_no_err c.in-Ok.reply rule.T
 pub returns-in-Err-clause-given_up : goal.returns-in-Err-clause-given_up
 returns-in-Err-clause-given_up g c given =
     is_again c.refused.result c.in-Err.refusal c.refused.ensures.reply (err_is c.in-Err.refusal rule.TryAgain (Err c.in-Err.refusal) refl (c.in-Err.ensures.given_up given))
+
+pub returns-in-Ok-clause-unstaged : goal.returns-in-Ok-clause-unstaged
+returns-in-Ok-clause-unstaged g c = c.reply_to.ensures.unstaged
+
+pub returns-in-Err-clause-unstaged : goal.returns-in-Err-clause-unstaged
+returns-in-Err-clause-unstaged g c = c.reply_to.ensures.unstaged
+
+pub returns-in-Ok-clause-rest : goal.returns-in-Ok-clause-rest
+returns-in-Ok-clause-rest g c = answered_holds c.in-Ok.ensures.rest
+
+pub returns-in-Err-clause-rest : goal.returns-in-Err-clause-rest
+returns-in-Err-clause-rest g c = holds_less (λ given. is_again c.refused.result c.in-Err.refusal c.refused.ensures.reply (err_is c.in-Err.refusal rule.TryAgain (Err c.in-Err.refusal) refl given)) c.in-Err.ensures.rest
+
+pub returns-in-Err-clause-again : goal.returns-in-Err-clause-again
+returns-in-Err-clause-again g c = λ again s means. c.in-Err.ensures.same s means
+
+pub returns-in-Ok-clause-again : goal.returns-in-Ok-clause-again
+returns-in-Ok-clause-again g c = λ again. absurd (c.in-Ok.ensures.plain rule.TryAgain again)
+
+pub returns-in-Ok-clause-crash : goal.returns-in-Ok-clause-crash
+returns-in-Ok-clause-crash g c s r kept f staged again = absurd (c.in-Ok.ensures.plain rule.TryAgain again)

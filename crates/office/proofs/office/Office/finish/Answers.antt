@@ -1,9 +1,8 @@
 use Rattle.office.specs.Crashes.{Endures}
-use Rattle.office.proofs.Endurance.{refused_adds, refused_same, then_adds, then_refused, then_replied}
+use Rattle.office.proofs.Endurance.{refused_adds, then_adds, then_refused, then_replied}
 use Rattle.office.proofs.Foreseen.{denied, no_reply}
 use Rattle.office.proofs.Unstaged.{staged_later, ends_later, then_holds}
-use Rattle.office.proofs.Holding.{answered_holds, given_up_too, holds_then, refused_holds}
-use Rattle.links.proofs.Texts.{clash}
+use Rattle.office.proofs.Holding.{answered_holds, given_up_too, holds_then}
 use Rattle.std.proofs.Common.{inl, inr, ◌∙◌}
 use Rattle.office.proofs.KeeperCalls.{on_err_too}
 use Rattle.office.proofs.office.Office.finish.Goals as goal

@@ -3,3 +3,6 @@ use Rattle.office.proofs.office.Office.look_up.Goals as goal
 
 pub returns-clause-rest : goal.returns-clause-rest
 returns-clause-rest g c = stays_then g.K.Keeper c.in_ok-office.ensures.rest (stays_ok g.K.Keeper c.in_ok-standing.ensures.rest)
+
+pub returns-clause-staged : goal.returns-clause-staged
+returns-clause-staged g c = λ bytes at. c.in_ok-standing.ensures.staged bytes (c.ask_office.ensures.staged bytes at)

@@ -1,6 +1,79 @@
+use Rattle.office.proofs.Holding.{holds_still}
+use Rattle.office.proofs.Endurance.{still}
 use Rattle.office.proofs.office.Office.receive.Goals as goal
 
 pub returns-then-is_upload-clause-whole : goal.returns-then-is_upload-clause-whole
 returns-then-is_upload-clause-whole g c digest is =
     let x = c.stage_body.ensures.whole digest is in
     (x.body, x.taken)
+
+pub returns-then-is_upload-clause-same : goal.returns-then-is_upload-clause-same
+returns-then-is_upload-clause-same g c = c.stage_body.ensures.same
+
+pub returns-then-is_upload-clause-lacking : goal.returns-then-is_upload-clause-lacking
+returns-then-is_upload-clause-lacking g c = c.stage_body.ensures.lacking
+
+pub returns-then-is_upload-clause-broken : goal.returns-then-is_upload-clause-broken
+returns-then-is_upload-clause-broken g c = c.stage_body.ensures.broken
+
+pub returns-then-is_upload-clause-fault : goal.returns-then-is_upload-clause-fault
+returns-then-is_upload-clause-fault g c = c.stage_body.ensures.fault
+
+pub returns-then-is_upload-clause-clean : goal.returns-then-is_upload-clause-clean
+returns-then-is_upload-clause-clean g c = c.stage_body.ensures.clean
+
+pub returns-then-is_upload-clause-means : goal.returns-then-is_upload-clause-means
+returns-then-is_upload-clause-means g c = c.stage_body.ensures.means
+
+pub returns-then-is_upload-clause-crash : goal.returns-then-is_upload-clause-crash
+returns-then-is_upload-clause-crash g c = c.stage_body.ensures.crash
+
+pub returns-then-is_upload-clause-counts : goal.returns-then-is_upload-clause-counts
+returns-then-is_upload-clause-counts g c = c.stage_body.ensures.counts
+
+pub returns-then-is_upload-clause-rest : goal.returns-then-is_upload-clause-rest
+returns-then-is_upload-clause-rest g c = c.stage_body.ensures.rest
+
+pub returns-then-is_upload-clause-staged : goal.returns-then-is_upload-clause-staged
+returns-then-is_upload-clause-staged g c = λ _. c.stage_body.ensures.whole
+
+pub returns-then-is_upload-clause-gave_up : goal.returns-then-is_upload-clause-gave_up
+returns-then-is_upload-clause-gave_up g c is = 
+    let x = c.stage_body.ensures.gave_up is in
+    (x.0, x.1, c.if-is_upload.true)
+
+pub returns-else-is_upload-clause-same : goal.returns-else-is_upload-clause-same
+returns-else-is_upload-clause-same g c = c.pass_over.ensures.same
+
+pub returns-else-is_upload-clause-whole : goal.returns-else-is_upload-clause-whole
+returns-else-is_upload-clause-whole g c = c.pass_over.ensures.whole
+
+pub returns-else-is_upload-clause-lacking : goal.returns-else-is_upload-clause-lacking
+returns-else-is_upload-clause-lacking g c = c.pass_over.ensures.lacking
+
+pub returns-else-is_upload-clause-broken : goal.returns-else-is_upload-clause-broken
+returns-else-is_upload-clause-broken g c = c.pass_over.ensures.broken
+
+pub returns-else-is_upload-clause-fault : goal.returns-else-is_upload-clause-fault
+returns-else-is_upload-clause-fault g c = c.pass_over.ensures.fault
+
+pub returns-else-is_upload-clause-clean : goal.returns-else-is_upload-clause-clean
+returns-else-is_upload-clause-clean g c = c.pass_over.ensures.clean
+
+pub returns-else-is_upload-clause-means : goal.returns-else-is_upload-clause-means
+returns-else-is_upload-clause-means g c = λ s means. means
+
+pub returns-else-is_upload-clause-crash : goal.returns-else-is_upload-clause-crash
+returns-else-is_upload-clause-crash g c = λ s means honest. still
+
+pub returns-else-is_upload-clause-rest : goal.returns-else-is_upload-clause-rest
+returns-else-is_upload-clause-rest g c = holds_still
+
+pub returns-else-is_upload-clause-passed : goal.returns-else-is_upload-clause-passed
+returns-else-is_upload-clause-passed g c = λ _ bytes at. at
+
+pub returns-else-is_upload-clause-gave_up : goal.returns-else-is_upload-clause-gave_up
+returns-else-is_upload-clause-gave_up g c = λ is. absurd (c.pass_over.ensures.takes_all is)
+
+pub returns-else-is_upload-clause-counts : goal.returns-else-is_upload-clause-counts
+returns-else-is_upload-clause-counts g c = λ is. absurd (c.pass_over.ensures.takes_all is)

@@ -14,3 +14,12 @@ pub returns-clause-rest : goal.returns-clause-rest
 returns-clause-rest g c =
     holds_less (sent_again (g.W.Write.contents c.args.writer.now.inner) (g.W.Write.contents c.send_answer.new.writer.inner) c.answer_whole-answer.result c.send_answer.result c.send_answer.ensures.sent)
     c.answer_whole-answer.ensures.rest
+
+pub returns-clause-unstaged : goal.returns-clause-unstaged
+returns-clause-unstaged g c = c.answer_whole-answer.ensures.unstaged
+
+pub returns-clause-fault : goal.returns-clause-fault
+returns-clause-fault g c = c.send_answer.ensures.fault
+
+pub returns-clause-clean : goal.returns-clause-clean
+returns-clause-clean g c = c.send_answer.ensures.clean

@@ -1,6 +1,8 @@
-use Rattle.std.proofs.Common.{inl, inr}
+use Rattle.std.proofs.Common.{inl, inr, Err, Ok, refl}
 use Rattle.boxes.specs.declared.change.Change.TheVariants as change
 use Rattle.office.specs.Crashes.{changed}
+use Rattle.office.proofs.Holding.{holds_less}
+use Rattle.office.proofs.KeeperCalls.{changed_holds}
 use Rattle.office.proofs.office.Office.set_file.Goals as goal
 
 pub returns-in-Ok-clause-sets : goal.returns-in-Ok-clause-sets
@@ -20,3 +22,12 @@ returns-in-Ok-clause-unstaged g c = inl (c.in-Ok.ensures.emptied tt)
 
 pub returns-in-Err-clause-unstaged : goal.returns-in-Err-clause-unstaged
 returns-in-Err-clause-unstaged g c = inr c.in-Err.ensures.count.err
+
+pub returns-in-Ok-clause-rest : goal.returns-in-Ok-clause-rest
+returns-in-Ok-clause-rest g c = holds_less (λ is. absurd is) (changed_holds (Ok tt) c.in-Ok.ensures.honest c.in-Ok.ensures.opened c.in-Ok.ensures.count)
+
+pub returns-in-Err-clause-rest : goal.returns-in-Err-clause-rest
+returns-in-Err-clause-rest g c = holds_less (λ _. refl) (changed_holds {T = Unit {0}} (Err _) c.in-Err.ensures.honest c.in-Err.ensures.opened c.in-Err.ensures.count)
+
+pub returns-in-Err-clause-same : goal.returns-in-Err-clause-same
+returns-in-Err-clause-same g c = c.in-Err.ensures.same

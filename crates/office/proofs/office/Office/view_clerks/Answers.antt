@@ -3,3 +3,6 @@ use Rattle.office.proofs.office.Office.view_clerks.Goals as goal
 
 pub returns-clause-rest : goal.returns-clause-rest
 returns-clause-rest g c = stays_then g.K.Keeper c.in_ok-key.ensures.rest (stays_ok g.K.Keeper c.in_ok-clerks.ensures.rest)
+
+pub returns-clause-staged : goal.returns-clause-staged
+returns-clause-staged g c = λ bytes at. c.clerks.ensures.staged bytes (c.key.ensures.staged bytes at)
