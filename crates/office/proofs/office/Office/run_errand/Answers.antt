@@ -3,6 +3,8 @@ use Rattle.office.specs.declared.requests.foreseeing.Errand.TheVariants as erran
 use Rattle.office.specs.Foreseeing.{IsPutting}
 use Rattle.office.proofs.Endurance.{refused_adds, refused_same, still}
 use Rattle.office.proofs.Foreseen.{errand_of, refused_of}
+use Rattle.office.proofs.Holding.{holds_still}
+use Rattle.office.proofs.KeeperCalls.{on_err_too}
 use Rattle.office.proofs.office.Office.run_errand.Goals as goal
 
 pub returns-in-Ok-Put-clause-replies : goal.returns-in-Ok-Put-clause-replies
@@ -63,3 +65,39 @@ returns-clause-unstaged g c (inl putting) =
     let same : c.args.prospect.errand ≡ Err c.in-Err.refusal = c.in-Err.is in
     absurd (subst IsPutting same putting)
 returns-clause-unstaged g c (inr none) = inl none
+
+pub returns-in-Ok-Put-clause-same : goal.returns-in-Ok-Put-clause-same
+returns-in-Ok-Put-clause-same g c = c.put.ensures.same
+
+pub returns-in-Ok-Put-clause-plain : goal.returns-in-Ok-Put-clause-plain
+returns-in-Ok-Put-clause-plain g c = c.put.ensures.plain
+
+pub returns-in-Ok-Put-clause-unstaged : goal.returns-in-Ok-Put-clause-unstaged
+returns-in-Ok-Put-clause-unstaged g c = λ _. c.put.ensures.unstaged
+
+pub returns-in-Ok-Put-clause-rest : goal.returns-in-Ok-Put-clause-rest
+returns-in-Ok-Put-clause-rest g c = c.put.ensures.rest
+
+pub returns-in-Ok-Fetch-clause-same : goal.returns-in-Ok-Fetch-clause-same
+returns-in-Ok-Fetch-clause-same g c = λ s means. on_err_too c.fetch.result (c.fetch.ensures.same s means)
+
+pub returns-in-Ok-Fetch-clause-plain : goal.returns-in-Ok-Fetch-clause-plain
+returns-in-Ok-Fetch-clause-plain g c = c.fetch.ensures.plain
+
+pub returns-in-Ok-Fetch-clause-rest : goal.returns-in-Ok-Fetch-clause-rest
+returns-in-Ok-Fetch-clause-rest g c = c.fetch.ensures.rest
+
+pub returns-in-Ok-Post-clause-same : goal.returns-in-Ok-Post-clause-same
+returns-in-Ok-Post-clause-same g c = c.post.ensures.same
+
+pub returns-in-Ok-Post-clause-plain : goal.returns-in-Ok-Post-clause-plain
+returns-in-Ok-Post-clause-plain g c = c.post.ensures.plain
+
+pub returns-in-Ok-Post-clause-rest : goal.returns-in-Ok-Post-clause-rest
+returns-in-Ok-Post-clause-rest g c = c.post.ensures.rest
+
+pub returns-clause-same : goal.returns-clause-same
+returns-clause-same g c = λ s means. means
+
+pub returns-clause-rest : goal.returns-clause-rest
+returns-clause-rest g c = holds_still

@@ -1,0 +1,8 @@
+use Rattle.office.proofs.Questions.{stays_ok}
+use Rattle.office.proofs.office.Office.view_box.Goals as goal
+
+pub returns-clause-rest : goal.returns-clause-rest
+returns-clause-rest g c = stays_ok g.K.Keeper c.in_ok-has_box.ensures.rest
+
+pub returns-clause-staged : goal.returns-clause-staged
+returns-clause-staged g c = c.has_box.ensures.staged
