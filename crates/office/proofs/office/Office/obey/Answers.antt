@@ -64,18 +64,6 @@ returns-in-Err-clause-unstaged g c = λ none. inl (c.look_at.ensures.staged _ no
 pub returns-in-Err-clause-same : goal.returns-in-Err-clause-same
 returns-in-Err-clause-same g c = c.look_at.ensures.rest.same
 
-pub returns-then-is_err-clause-rest : goal.returns-then-is_err-clause-rest
-returns-then-is_err-clause-rest g c = asked_holds g.K.Keeper _ _ _ c.in-Ok.ensures.rest
-
-pub returns-then-is_err-clause-unstaged : goal.returns-then-is_err-clause-unstaged
-returns-then-is_err-clause-unstaged g c = λ none. inl (c.look_at.ensures.staged _ none)
-
-pub returns-then-is_err-clause-same : goal.returns-then-is_err-clause-same
-returns-then-is_err-clause-same g c = c.look_at.ensures.rest.same
-
-pub returns-then-is_err-clause-crash : goal.returns-then-is_err-clause-crash
-returns-then-is_err-clause-crash g c = λ s kept form. asked_standing c.look_at.ensures.rest kept.means kept.is_honest
-
 pub returns-in-Ok-apply-clause-rest : goal.returns-in-Ok-apply-clause-rest
 returns-in-Ok-apply-clause-rest g c = holds_then (asked_holds g.K.Keeper _ _ _ c.in-Ok.ensures.rest) (holds_less (λ is. absurd is) (changed_holds (Ok tt) c.in-Ok-apply.ensures.honest c.in-Ok-apply.ensures.opened c.in-Ok-apply.ensures.count))
 

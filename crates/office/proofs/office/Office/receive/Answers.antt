@@ -38,7 +38,7 @@ pub returns-then-is_upload-clause-staged : goal.returns-then-is_upload-clause-st
 returns-then-is_upload-clause-staged g c = λ _. c.stage_body.ensures.whole
 
 pub returns-then-is_upload-clause-gave_up : goal.returns-then-is_upload-clause-gave_up
-returns-then-is_upload-clause-gave_up g c is = 
+returns-then-is_upload-clause-gave_up g c is =
     let x = c.stage_body.ensures.gave_up is in
     (x.0, x.1, c.if-is_upload.true)
 
