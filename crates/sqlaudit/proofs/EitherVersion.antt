@@ -5,14 +5,34 @@ use Rattle.sqlite.specs.Effect.{Database}
 use Rattle.sqlite.specs.State.{State}
 use Rattle.sqltables.specs.Schema.{v1, v2, first_version, second_version}
 use Rattle.sqlaudit.specs.declared.opening.Finding.{Finding}
-use Rattle.sqlaudit.specs.declared.opening.Finding.TheVariants.{OtherVersion, Damaged}
+use Rattle.sqlaudit.specs.declared.opening.Finding.TheVariants.{Sound, OtherVersion, Damaged}
 use Rattle.sqlaudit.specs.declared.opening.Found.TheVariants as found
-use Rattle.sqlaudit.specs.Opened.{HasOurs, IsOurs, SeesSame, IsFound, IsEither, SaysVersion, AreDamaged, AreNeither}
+use Rattle.sqlaudit.specs.Opened.{HasOurs, IsOurs, LeavesUntouched, SeesSame, IsFound, IsEither, SaysVersion, AreDamaged, AreNeither}
 use Rattle.sqlaudit.proofs.Tested.{office_version}
 
 -- a file of another version is not found damaged
 pub other_is_whole : {finding : Finding} → finding ≡ OtherVersion → finding ≢ Damaged
 other_is_whole is damaged = let e : ◌≡◌ {A = Finding} OtherVersion Damaged = sym is ∙ damaged in cc
+
+same_on : (old mid new : State) → SeesSame old mid → SeesSame mid new → SeesSame old new
+same_on old mid new first second = record {
+  was_open = λ is_open. first.was_open (second.was_open is_open);
+  now_is = λ is_open. second.now_is is_open ∙ first.now_is (second.was_open is_open);
+  committed_is = λ is_open. second.committed_is is_open ∙ first.committed_is (second.was_open is_open);
+  mode = second.mode ∙ first.mode;
+}
+
+-- a sound file is not found damaged
+pub sound_is_whole : {finding : Finding} → finding ≡ Sound → finding ≢ Damaged
+sound_is_whole is damaged = let e : ◌≡◌ {A = Finding} Sound Damaged = sym is ∙ damaged in cc
+
+-- two tests, one after the other
+pub untouched_on : (old mid new : State) → LeavesUntouched old mid → LeavesUntouched mid new → LeavesUntouched old new
+untouched_on old mid new first second = record {
+  same = λ clean. same_on old mid new (first.same (second.honest clean)) (second.same clean);
+  crash = λ clean trees left. first.crash (second.honest clean) trees (second.crash clean trees left);
+  honest = λ clean. first.honest (second.honest clean);
+}
 
 -- a database says only one version
 one_said : (db : Database) (a b : ℤ) → SaysVersion db a → SaysVersion db b → a ≡ b

@@ -1,5 +1,7 @@
 -- A file that was only tested, in a transaction that was rolled back.
-use Rattle.std.proofs.Common.{◌≡◌, inl, inr, false, IsTrue, [], arith, refl, sym, subst, ◌∙◌}
+use Rattle.std.proofs.Common.{◌≡◌, inl, inr, Bool, true, false, IsTrue, [], arith, refl, sym, subst, ◌∙◌}
+use Rattle.std.specs.Prelude.{not}
+use Rattle.std.proofs.lemmas.Bool.{false≢true}
 use Rattle.sqlite_trees.specs.Tree.{Trees}
 use Rattle.sqlite_value.specs.Order.{Row}
 use Rattle.sqlite_rules.specs.Lists.{Has}
@@ -60,6 +62,11 @@ module _ (old begun mid new : State) (begins : Begins old begun) (settled : IsSe
     ];
     honest = λ clean. begins.clean (omega (arith, clean, after.clean, before.clean));
   }
+
+-- no transaction has begun
+pub not_begun : (begun : Bool) {autocommit : Bool} → autocommit ≡ not begun → autocommit ≡ true → begun ≡ false
+not_begun false is true_is = refl
+not_begun true is true_is = absurd (false≢true (sym is ∙ true_is))
 
 -- a file that was not tested
 pub as_it_is : (s : State) → LeavesUntouched s s

@@ -5,7 +5,8 @@ use Rattle.sqlite.specs.State.{HasCleanDisk}
 use Rattle.boxes.specs.State.{Place}
 use Rattle.sqltables.specs.Pieces.{HasPiece, IsPieceAt}
 use Rattle.sqltables.proofs.Gathering.{Gathered, ReadsNext, OpensOurs, gathers, ours_at, whole_at, no_bytes}
-use Rattle.sqlaudit.proofs.Digested.{lacked_at, next_misfits}
+use Rattle.sqlaudit.proofs.Digested.{gathered_goes, gathered_then, lacked_at, next_misfits}
+use Rattle.sqlaudit.proofs.Onward.{failed, followed, gave_up, succeeded}
 use Rattle.sqlaudit.proofs.digests.find_bytes.Goals as goal
 
 pub loop-tx-preserved : goal.loop-tx-preserved
@@ -59,3 +60,51 @@ returns-then-len-min-clause-read g c v ours has whole inside clean =
     let other : length piece ≢ min (c.args.size - length bytes) 65536 = search rules in
     lacked_at entry mid place c.args.size bytes c.loop-tx.part c.loop-tx.invariant.1 v first early
     (inr (next_misfits entry mid place c.args.size bytes c.loop-tx.part c.loop-tx.invariant.1 v first early less piece stands other))
+
+pub returns-in_err-bytes-clause-rest : goal.returns-in_err-bytes-clause-rest
+returns-in_err-bytes-clause-rest g c = gave_up c.args.tx.now c.from_residual.result c.from_residual.ensures.0
+
+pub returns-in_err-piece-clause-rest : goal.returns-in_err-piece-clause-rest
+returns-in_err-piece-clause-rest g c =
+    failed c.from_residual-in_err-piece.result (gathered_then c.loop-tx.invariant.0 c.loop-tx.invariant.1 c.read_piece.ensures.rest) c.from_residual-in_err-piece.ensures.0
+
+pub returns-in_default-clause-rest : goal.returns-in_default-clause-rest
+returns-in_default-clause-rest g c = succeeded _ (gathered_then c.loop-tx.invariant.0 c.loop-tx.invariant.1 c.in_ok-piece.ensures.rest)
+
+pub returns-then-len-min-clause-rest : goal.returns-then-len-min-clause-rest
+returns-then-len-min-clause-rest g c = succeeded _ (gathered_then c.loop-tx.invariant.0 c.loop-tx.invariant.1 c.in_ok-piece.ensures.rest)
+
+pub returns-in_err-extend_from_slice-clause-rest : goal.returns-in_err-extend_from_slice-clause-rest
+returns-in_err-extend_from_slice-clause-rest g c =
+    failed c.from_residual-in_err-extend_from_slice.result (gathered_then c.loop-tx.invariant.0 c.loop-tx.invariant.1 c.in_ok-piece.ensures.rest) c.from_residual-in_err-extend_from_slice.ensures.0
+
+pub returns-in-None-clause-rest : goal.returns-in-None-clause-rest
+returns-in-None-clause-rest g c = followed _ (gathered_then c.loop-tx.invariant.0 c.loop-tx.invariant.1 c.in_ok-piece.ensures.rest)
+
+pub returns-clause-rest : goal.returns-clause-rest
+returns-clause-rest g c = gathered_goes c.loop-tx.invariant.0 c.loop-tx.invariant.1 _
+
+pub returns-in_default-clause-same : goal.returns-in_default-clause-same
+returns-in_default-clause-same g c v ours has inside clean =
+    let place : Place = record { box = c.args.in_box.now; name = c.args.name.now } in
+    let entry = state g.S.Store c.args.tx.now.conn.now in
+    let mid = state g.S.Store c.loop-tx.tx.conn.now in
+    let bytes = c.loop-tx.bytes.items in
+    let first : OpensOurs v entry = record { version = ours; schema = has; inside = inside } in
+    let early : HasCleanDisk mid = omega (arith, clean, c.read_piece.ensures.rest.survives.clean) in
+    let now = ours_at entry mid place c.args.size bytes c.loop-tx.part c.loop-tx.invariant.1 v first early in
+    c.in_ok-piece.ensures.same v now.version now.schema now.inside clean ∙ c.loop-tx.invariant.1.same v first early
+
+pub returns-then-len-min-clause-same : goal.returns-then-len-min-clause-same
+returns-then-len-min-clause-same g c v ours has inside clean =
+    let place : Place = record { box = c.args.in_box.now; name = c.args.name.now } in
+    let entry = state g.S.Store c.args.tx.now.conn.now in
+    let mid = state g.S.Store c.loop-tx.tx.conn.now in
+    let bytes = c.loop-tx.bytes.items in
+    let first : OpensOurs v entry = record { version = ours; schema = has; inside = inside } in
+    let early : HasCleanDisk mid = omega (arith, clean, c.read_piece.ensures.rest.survives.clean) in
+    let now = ours_at entry mid place c.args.size bytes c.loop-tx.part c.loop-tx.invariant.1 v first early in
+    c.in_ok-piece.ensures.same v now.version now.schema now.inside clean ∙ c.loop-tx.invariant.1.same v first early
+
+pub returns-clause-same : goal.returns-clause-same
+returns-clause-same g c v ours has inside clean = c.loop-tx.invariant.1.same v (record { version = ours; schema = has; inside = inside }) clean

@@ -7,6 +7,7 @@ use Rattle.sqlite.specs.Held.{state}
 use Rattle.boxes.specs.State.{Place}
 use Rattle.sqlaudit.specs.Opened.{AreBytesFound, HasBytes, IsBare, IsNotBare, LacksBytes, place_in}
 use Rattle.sqlaudit.proofs.Digested.{told, told_empty, none_told}
+use Rattle.sqlaudit.proofs.Onward.{failed, refused, succeeded, weaker}
 use Rattle.sqlaudit.proofs.digests.has_bytes.Goals as goal
 
 pub returns-in_default-3-clause-read : goal.returns-in_default-3-clause-read
@@ -48,3 +49,36 @@ returns-clause-read g c v ours has whole inside clean =
     let full : 0 < c.in-Ok.size = search rules in
     told rows c.args.receipts.now c.args.file.now c.in-Some.given.now c.in-Some.ensures c.in-Ok.size size place there full c.in-Some-2.bytes.items are octets c.have_digest.result
     (subst (λ xs. (IsTrue c.have_digest.result → sha256 xs ≡ c.in-Some.given.now.digest.items) × (sha256 xs ≡ c.in-Some.given.now.digest.items → IsTrue c.have_digest.result)) c.deref-3.ensures.value c.have_digest.ensures.told)
+
+pub returns-in_default-clause-rest : goal.returns-in_default-clause-rest
+returns-in_default-clause-rest g c = refused c.args.tx.now
+
+pub returns-in_default-2-clause-rest : goal.returns-in_default-2-clause-rest
+returns-in_default-2-clause-rest g c = refused c.args.tx.now
+
+pub returns-in_default-2-2-clause-rest : goal.returns-in_default-2-2-clause-rest
+returns-in_default-2-2-clause-rest g c = refused c.args.tx.now
+
+pub returns-in_default-try_from-clause-rest : goal.returns-in_default-try_from-clause-rest
+returns-in_default-try_from-clause-rest g c = refused c.args.tx.now
+
+pub returns-then-size-eq0-clause-same : goal.returns-then-size-eq0-clause-same
+returns-then-size-eq0-clause-same g c = c.is_bare.ensures.same
+
+pub returns-then-size-eq0-clause-rest : goal.returns-then-size-eq0-clause-rest
+returns-then-size-eq0-clause-rest g c = weaker (λ running. running.0) (λ began. began) c.is_bare.ensures.rest
+
+pub returns-in_err-bytes-clause-rest : goal.returns-in_err-bytes-clause-rest
+returns-in_err-bytes-clause-rest g c = failed c.from_residual.result c.find_bytes.ensures.rest c.from_residual.ensures.0
+
+pub returns-in_default-3-clause-same : goal.returns-in_default-3-clause-same
+returns-in_default-3-clause-same g c = c.in_ok-bytes.ensures.same
+
+pub returns-in_default-3-clause-rest : goal.returns-in_default-3-clause-rest
+returns-in_default-3-clause-rest g c = succeeded _ c.in_ok-bytes.ensures.rest
+
+pub returns-clause-same : goal.returns-clause-same
+returns-clause-same g c = c.in_ok-bytes.ensures.same
+
+pub returns-clause-rest : goal.returns-clause-rest
+returns-clause-rest g c = succeeded _ c.in_ok-bytes.ensures.rest

@@ -5,7 +5,8 @@ use Rattle.sqlite.specs.Held.{state}
 use Rattle.sqlaudit.specs.Opened.{HasBytes, LacksBytes}
 use Rattle.sqlaudit.proofs.Entries.{has_at}
 use Rattle.sqltables.proofs.Gathering.{OpensOurs}
-use Rattle.sqlaudit.proofs.Digested.{LooksOn, none_looked, looked_on, one_more}
+use Rattle.sqlaudit.proofs.Digested.{LooksOn, none_looked, looked_goes, looked_on, one_more}
+use Rattle.sqlaudit.proofs.Onward.{and_then, failed, succeeded}
 use Rattle.sqlaudit.proofs.digests.have_bytes.Goals as goal
 
 pub loop-file-init : goal.loop-file-init
@@ -51,3 +52,14 @@ pub returns-clause-read : goal.returns-clause-read
 returns-clause-read g c v ours has whole running clean =
     let first : OpensOurs v (state g.S.Store c.args.tx.now.conn.now) = record { version = ours; schema = has; inside = running.0 } in
     λ file there. c.loop-file.invariant.1.each v first running whole clean file (subst (λ xs. Contains xs file) (sym (take_all c.loop-file.file-index c.args.files.now c.loop-file-test.false)) there)
+
+pub returns-in_err-has_bytes-clause-rest : goal.returns-in_err-has_bytes-clause-rest
+returns-in_err-has_bytes-clause-rest g c =
+    and_then (λ running. running) (λ running. (running, running.0)) (looked_goes c.loop-file.invariant.0 c.loop-file.invariant.1 c.loop-file.file-index) (failed c.from_residual.result c.has_bytes.ensures.rest c.from_residual.ensures.0)
+
+pub returns-then-not-branch-clause-rest : goal.returns-then-not-branch-clause-rest
+returns-then-not-branch-clause-rest g c =
+    and_then (λ running. running) (λ running. (running, running.0)) (looked_goes c.loop-file.invariant.0 c.loop-file.invariant.1 c.loop-file.file-index) (succeeded _ c.in_ok-has_bytes.ensures.rest)
+
+pub returns-clause-rest : goal.returns-clause-rest
+returns-clause-rest g c = looked_goes c.loop-file.invariant.0 c.loop-file.invariant.1 _

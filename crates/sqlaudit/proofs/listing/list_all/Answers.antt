@@ -9,6 +9,7 @@ use Rattle.sqlaudit.proofs.Extents.{is_version}
 use Rattle.sqlaudit.proofs.StillReads.{begins, goes_on, whole_still}
 use Rattle.sqlaudit.specs.Portions.{AreRowids}
 use Rattle.sqlaudit.proofs.LongTexts.{receipt_shown, counts_receipts, asks_receipts, file_numbers, counts_files, piece_shown, counts_pieces, asks_pieces, later}
+use Rattle.sqlaudit.proofs.Onward.{and_then, begun_then, failed, succeeded}
 use Rattle.sqlaudit.proofs.PortionRows.{counted}
 use Rattle.sqlaudit.proofs.WholeTables.{lists_keys, lists_boxes, lists_receipts, lists_pieces}
 use Rattle.sqlaudit.proofs.listing.list_all.Goals as goal
@@ -86,3 +87,33 @@ returns-clause-same g c has inside clean =
     (c.in_ok-list_long-2.ensures.rowids v 5 (counts_receipts v ours) s4.schema s4.inside clean_receipts) (c.in_ok-list_long-2.ensures.same v 5 [] receipt_shown (counts_receipts v ours) (asks_receipts v ours) s4.schema s4.inside clean_receipts) in
     let s5 = goes_on v entry at_files at_receipts s4 receipts.same (c.in_ok-list_long-2.ensures.rest.running clean_receipts s4.inside) (c.list_long-2.ensures.rest.uncommitted clean_receipts s4.inside) in
     c.in_ok-list_added.ensures.same s5.schema s5.inside clean ∙ s5.same
+
+pub returns-in_err-list-clause-rest : goal.returns-in_err-list-clause-rest
+returns-in_err-list-clause-rest g c = failed c.from_residual.result c.list.ensures.rest c.from_residual.ensures.0
+
+pub returns-in_err-list-2-clause-rest : goal.returns-in_err-list-2-clause-rest
+returns-in_err-list-2-clause-rest g c =
+    begun_then c.in_ok-list.ensures.rest (failed c.from_residual-in_err-list-2.result c.list-2.ensures.rest c.from_residual-in_err-list-2.ensures.0)
+
+pub returns-in_err-list_long-clause-rest : goal.returns-in_err-list_long-clause-rest
+returns-in_err-list_long-clause-rest g c =
+    begun_then c.in_ok-list.ensures.rest (begun_then c.in_ok-list-2.ensures.rest (failed c.from_residual-in_err-list_long.result c.list_long.ensures.rest c.from_residual-in_err-list_long.ensures.0))
+
+pub returns-in_err-list_numbers-clause-rest : goal.returns-in_err-list_numbers-clause-rest
+returns-in_err-list_numbers-clause-rest g c =
+    begun_then c.in_ok-list.ensures.rest (begun_then c.in_ok-list-2.ensures.rest (begun_then c.in_ok-list_long.ensures.rest (failed c.from_residual-in_err-list_numbers.result c.list_numbers.ensures.rest c.from_residual-in_err-list_numbers.ensures.0)))
+
+pub returns-in_err-list_long-2-clause-rest : goal.returns-in_err-list_long-2-clause-rest
+returns-in_err-list_long-2-clause-rest g c =
+    begun_then c.in_ok-list.ensures.rest (begun_then c.in_ok-list-2.ensures.rest (begun_then c.in_ok-list_long.ensures.rest (begun_then c.in_ok-list_numbers.ensures.rest
+    (failed c.from_residual-in_err-list_long-2.result c.list_long-2.ensures.rest c.from_residual-in_err-list_long-2.ensures.0))))
+
+pub returns-in_err-list_added-clause-rest : goal.returns-in_err-list_added-clause-rest
+returns-in_err-list_added-clause-rest g c =
+    begun_then c.in_ok-list.ensures.rest (begun_then c.in_ok-list-2.ensures.rest (begun_then c.in_ok-list_long.ensures.rest (begun_then c.in_ok-list_numbers.ensures.rest
+    (and_then (λ began. began) (λ running. (running, running.0)) c.in_ok-list_long-2.ensures.rest (failed c.from_residual-in_err-list_added.result c.list_added.ensures.rest c.from_residual-in_err-list_added.ensures.0)))))
+
+pub returns-clause-rest : goal.returns-clause-rest
+returns-clause-rest g c =
+    begun_then c.in_ok-list.ensures.rest (begun_then c.in_ok-list-2.ensures.rest (begun_then c.in_ok-list_long.ensures.rest (begun_then c.in_ok-list_numbers.ensures.rest
+    (and_then (λ began. began) (λ running. (running, running.0)) c.in_ok-list_long-2.ensures.rest (succeeded _ c.in_ok-list_added.ensures.rest)))))

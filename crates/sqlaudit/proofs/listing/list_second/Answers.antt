@@ -7,6 +7,7 @@ use Rattle.sqltables.proofs.Ours.{versions_differ}
 use Rattle.sqlaudit.specs.Lines.{AreLines, HaveRowids, IsLimitLine}
 use Rattle.sqlaudit.proofs.StillReads.{begins, goes_on}
 use Rattle.sqlaudit.proofs.WholeTables.{lists_rules, lists_limits}
+use Rattle.sqlaudit.proofs.Onward.{begun_then, failed, succeeded}
 use Rattle.sqlaudit.proofs.listing.list_second.Goals as goal
 
 pub returns-clause-listed : goal.returns-clause-listed
@@ -40,3 +41,12 @@ returns-clause-same g c has inside clean =
     let rules = lists_rules entry at_rules s0.schema c.in_ok-list.field-0.items (c.in_ok-list.ensures.read clean_rules) in
     let s1 = goes_on v2 entry entry at_rules s0 rules.same (c.in_ok-list.ensures.rest.running clean_rules s0.inside) (c.list.ensures.rest.uncommitted clean_rules s0.inside) in
     (lists_limits at_rules at_limits s1.schema c.in_ok-list-2.field-0.items (c.in_ok-list-2.ensures.read clean_limits)).same ∙ s1.same
+
+pub returns-in_err-list-clause-rest : goal.returns-in_err-list-clause-rest
+returns-in_err-list-clause-rest g c = failed c.from_residual.result c.list.ensures.rest c.from_residual.ensures.0
+
+pub returns-in_err-list-2-clause-rest : goal.returns-in_err-list-2-clause-rest
+returns-in_err-list-2-clause-rest g c = begun_then c.in_ok-list.ensures.rest (failed c.from_residual-in_err-list-2.result c.list-2.ensures.rest c.from_residual-in_err-list-2.ensures.0)
+
+pub returns-clause-rest : goal.returns-clause-rest
+returns-clause-rest g c = begun_then c.in_ok-list.ensures.rest (succeeded _ c.in_ok-list-2.ensures.rest)

@@ -15,6 +15,7 @@ use Rattle.sqlaudit.specs.declared.rules.Lines.{Lines}
 use Rattle.sqlaudit.proofs.Extents.{is_version}
 use Rattle.sqlaudit.proofs.Tested.{AreLent, are_listed, unsound, unfit, lacks_files, lacks_totals, lacks_pieces, tested, pieces_are, pieces_lack}
 use Rattle.sqlaudit.proofs.WholeRules.{refuted}
+use Rattle.sqlaudit.proofs.Onward.{failed, not_called, refused, succeeded}
 use Rattle.sqlaudit.proofs.opening.is_sound.Goals as goal
 
 pub returns-then-not-fit_version-clause-found : goal.returns-then-not-fit_version-clause-found
@@ -106,3 +107,27 @@ returns-clause-found g c has whole running clean lines rowids of tables =
           lacks_pieces v ours db lent c.args.office.now c.args.listed.now is are r filed all
           (pieces_lack db c.deref-9.result.now listed r.receipts m (λ fit. refuted not (pieces.1 fit)))
     ] refl
+
+pub returns-then-not-are_rising-clause-rest : goal.returns-then-not-are_rising-clause-rest
+returns-then-not-are_rising-clause-rest g c = refused c.args.tx.now
+
+pub returns-then-not-fit_version-clause-rest : goal.returns-then-not-fit_version-clause-rest
+returns-then-not-fit_version-clause-rest g c = not_called c.args.tx.now _ (λ running. running)
+
+pub returns-in_default-clause-rest : goal.returns-in_default-clause-rest
+returns-in_default-clause-rest g c = refused c.args.tx.now
+
+pub returns-then-not-sound-clause-rest : goal.returns-then-not-sound-clause-rest
+returns-then-not-sound-clause-rest g c = not_called c.args.tx.now _ (λ running. running)
+
+pub returns-in_err-filed-clause-rest : goal.returns-in_err-filed-clause-rest
+returns-in_err-filed-clause-rest g c = failed c.from_residual.result c.test_files.ensures.rest c.from_residual.ensures.0
+
+pub returns-in_default-2-clause-rest : goal.returns-in_default-2-clause-rest
+returns-in_default-2-clause-rest g c = succeeded _ c.in_ok-filed.ensures.rest
+
+pub returns-then-not-have_totals-clause-rest : goal.returns-then-not-have_totals-clause-rest
+returns-then-not-have_totals-clause-rest g c = succeeded _ c.in_ok-filed.ensures.rest
+
+pub returns-clause-rest : goal.returns-clause-rest
+returns-clause-rest g c = succeeded _ c.in_ok-filed.ensures.rest

@@ -11,6 +11,8 @@ use Rattle.sqlaudit.proofs.Extents.{is_version}
 use Rattle.sqlaudit.proofs.StillReads.{begins, goes_on, whole_still}
 use Rattle.sqltables.proofs.StandingFiles.{if_ok_more}
 use Rattle.sqlaudit.proofs.Tested.{unversioned, lines_version, damaged, less}
+use Rattle.sqlaudit.proofs.Onward.{and_then, failed, succeeded}
+use Rattle.sqlaudit.proofs.EitherVersion.{sound_is_whole}
 use Rattle.sqlaudit.proofs.opening.look.Goals as goal
 
 pub returns-in_default-clause-found : goal.returns-in_default-clause-found
@@ -72,3 +74,24 @@ returns-clause-found g c premise inside clean =
     if_ok_more _ _ c.look_at_all.result (λ finding is. subst (IsFound v finding) still.same is)
     (c.look_at_all.ensures.found still.schema (whole_still v entry mid still (λ is_open. p.2)) running clean (subst (λ (d : Database). AreLines IsOfficeLine (d.trees 0) c.deref-2.result.now) back are)
     (subst (λ (d : Database). HaveRowids (d.trees 0)) back rowids) of)
+
+pub returns-in_err-office-clause-rest : goal.returns-in_err-office-clause-rest
+returns-in_err-office-clause-rest g c = failed c.from_residual.result c.list_office.ensures.rest c.from_residual.ensures.0
+
+pub returns-in_default-clause-whole : goal.returns-in_default-clause-whole
+returns-in_default-clause-whole g c = λ sound. absurd (sound_is_whole sound refl)
+
+pub returns-in_default-clause-rest : goal.returns-in_default-clause-rest
+returns-in_default-clause-rest g c = succeeded _ c.in_ok-office.ensures.rest
+
+pub returns-then-line-number-clause-rest : goal.returns-then-line-number-clause-rest
+returns-then-line-number-clause-rest g c = succeeded _ c.in_ok-office.ensures.rest
+
+pub returns-then-ne-clause-whole : goal.returns-then-ne-clause-whole
+returns-then-ne-clause-whole g c = λ sound. absurd (sound_is_whole sound refl)
+
+pub returns-then-ne-clause-rest : goal.returns-then-ne-clause-rest
+returns-then-ne-clause-rest g c = succeeded _ c.in_ok-office.ensures.rest
+
+pub returns-clause-rest : goal.returns-clause-rest
+returns-clause-rest g c = and_then (λ began. began) (λ running. (running, running)) c.in_ok-office.ensures.rest c.look_at_all.ensures.rest

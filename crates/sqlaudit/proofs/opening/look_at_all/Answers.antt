@@ -10,6 +10,7 @@ use Rattle.sqlaudit.specs.Formats.{version_of}
 use Rattle.sqlaudit.proofs.Extents.{is_version}
 use Rattle.sqlaudit.proofs.StillReads.{begins, goes_on, whole_still}
 use Rattle.sqlaudit.proofs.Tested.{damaged, found_of}
+use Rattle.sqlaudit.proofs.Onward.{and_then, failed, succeeded, weaker}
 use Rattle.sqlaudit.proofs.opening.look_at_all.Goals as goal
 
 pub returns-clause-found : goal.returns-clause-found
@@ -27,3 +28,13 @@ returns-clause-found g c has whole running clean lines rowids of =
     (subst (λ (d : Database). HaveRowids (d.trees 0)) back rowids) of tables in
     found_of v entry.now c.finding_of.result c.in_ok-sound.sound c.finding_of.ensures (damaged v ours entry.now c.args.office.now lines of)
     (subst (λ d. MatchBool c.in_ok-sound.sound ((o : Office) × AreOffice v d o) ((o : Office) → AreOffice v d o → ⊥)) still.same sound)
+
+pub returns-in_err-listed-clause-rest : goal.returns-in_err-listed-clause-rest
+returns-in_err-listed-clause-rest g c = weaker (λ running. running.0) (λ running. running.0) (failed c.from_residual.result c.list_all.ensures.rest c.from_residual.ensures.0)
+
+pub returns-in_err-sound-clause-rest : goal.returns-in_err-sound-clause-rest
+returns-in_err-sound-clause-rest g c =
+    and_then (λ running. running) (λ running. (running, running)) (weaker (λ running. running.0) (λ running. running.0) c.in_ok-listed.ensures.rest) (failed c.from_residual-in_err-sound.result c.is_sound.ensures.rest c.from_residual-in_err-sound.ensures.0)
+
+pub returns-clause-rest : goal.returns-clause-rest
+returns-clause-rest g c = and_then (λ running. running) (λ running. (running, running)) (weaker (λ running. running.0) (λ running. running.0) c.in_ok-listed.ensures.rest) (succeeded _ c.in_ok-sound.ensures.rest)

@@ -9,6 +9,7 @@ use Rattle.sqlaudit.specs.Lines.{AreLinesWhere, HaveRowids}
 use Rattle.sqlaudit.specs.Portions.{AreRowids, Passes}
 use Rattle.sqlaudit.proofs.PortionRows.{counted}
 use Rattle.sqlaudit.proofs.StillReads.{begins, goes_on}
+use Rattle.sqlaudit.proofs.Onward.{and_then, failed}
 use Rattle.sqlaudit.proofs.portions.list_long.Goals as goal
 
 pub returns-clause-read : goal.returns-clause-read
@@ -41,3 +42,9 @@ returns-clause-same g c v tree test show counts asks schema inside clean =
     let running = c.in_ok-numbers.ensures.rest.running early inside in
     let still = goes_on v entry entry mid (begins v entry schema inside) all.same running (c.list_numbers.ensures.rest.uncommitted early inside) in
     on_ok_weaker {P = now.now ≡ mid.now} {Q = now.now ≡ entry.now} c.list_portions.result (λ e. e ∙ all.same) (c.list_portions.ensures.same v tree test show asks still.schema running clean)
+
+pub returns-in_err-numbers-clause-rest : goal.returns-in_err-numbers-clause-rest
+returns-in_err-numbers-clause-rest g c = failed c.from_residual.result c.list_numbers.ensures.rest c.from_residual.ensures.0
+
+pub returns-clause-rest : goal.returns-clause-rest
+returns-clause-rest g c = and_then (λ began. began) (λ running. (running, running)) c.in_ok-numbers.ensures.rest c.list_portions.ensures.rest

@@ -1,6 +1,8 @@
 use Rattle.std.proofs.Common.{◌≡◌, ◌+◌, ◌++◌, ◌-◌, ◌≤◌, pos, get_or, to_z, of_z, w64, length, rules, refl, sym, subst, ◌∙◌}
 use Rattle.sqlite.specs.Held.{state}
 use Rattle.sqlaudit.proofs.PortionRows.{Opens, Portioned, ReadsOn, none_read, read_on, all_read}
+use Rattle.sqlaudit.proofs.Onward.{and_then, failed, gave_up}
+use Rattle.sqlaudit.proofs.PortionRows.{portioned_goes}
 use Rattle.sqlaudit.proofs.portions.list_portions.Goals as goal
 
 pub loop-at-init : goal.loop-at-init
@@ -43,3 +45,17 @@ returns-clause-same g c v tree test show asks schema running clean =
     let entry = state g.S.Store c.args.tx.now.conn.now in
     let opens : Opens v c.args.sql.now tree test show entry = record { asks = asks; schema = schema; running = running } in
     c.loop-at.invariant.1.same v tree test show opens clean
+
+pub returns-in_err-lines-clause-rest : goal.returns-in_err-lines-clause-rest
+returns-in_err-lines-clause-rest g c = gave_up c.args.tx.now c.from_residual.result c.from_residual.ensures.0
+
+pub returns-in_err-more-clause-rest : goal.returns-in_err-more-clause-rest
+returns-in_err-more-clause-rest g c =
+    and_then (λ running. running) (λ running. (running.0, running.0)) (portioned_goes c.loop-at.invariant.0 c.loop-at.invariant.1 c.loop-at.at) (failed c.from_residual-in_err-more.result c.list_between.ensures.rest c.from_residual-in_err-more.ensures.0)
+
+pub returns-in_err-append-clause-rest : goal.returns-in_err-append-clause-rest
+returns-in_err-append-clause-rest g c =
+    failed c.from_residual-in_err-append.result (and_then (λ running. running) (λ running. (running.0, running.0)) (portioned_goes c.loop-at.invariant.0 c.loop-at.invariant.1 c.loop-at.at) c.in_ok-more.ensures.rest) c.from_residual-in_err-append.ensures.0
+
+pub returns-clause-rest : goal.returns-clause-rest
+returns-clause-rest g c = portioned_goes c.loop-at.invariant.0 c.loop-at.invariant.1 _

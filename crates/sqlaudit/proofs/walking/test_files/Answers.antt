@@ -13,8 +13,9 @@ use Rattle.sqlaudit.specs.Sorting.{AreFiled, AreUnfiled, IsFiled, spot_of}
 use Rattle.sqlaudit.proofs.Entries.{start}
 use Rattle.sqlaudit.proofs.FileEntries.{no_sums}
 use Rattle.sqlaudit.proofs.LongTexts.{files_between, file_shown}
-use Rattle.sqlaudit.proofs.PortionRows.{ReadsOn, GoesFrom, none_read}
+use Rattle.sqlaudit.proofs.PortionRows.{ReadsOn, GoesFrom, none_read, portioned_goes}
 use Rattle.sqlaudit.proofs.WalkedFiles.{OpensWhole, opens_files, seen_then, unfiled_portion, lacking_portion, walked_on, all_walked}
+use Rattle.sqlaudit.proofs.Onward.{and_then, failed, succeeded}
 use Rattle.sqlaudit.proofs.walking.test_files.Goals as goal
 
 pub loop-at-init : goal.loop-at-init
@@ -180,3 +181,35 @@ returns-clause-read g c rs held are v ours schema whole running clean =
 pub returns-clause-same : goal.returns-clause-same
 returns-clause-same g c v ours schema whole running clean =
     c.loop-at.invariant.1.portioned.same v 6 [] file_shown (opens_files v (state g.S.Store c.args.tx.now.conn.now) (record { version = ours; schema = schema; whole = whole; running = running })) clean
+
+pub returns-in_err-lines-clause-rest : goal.returns-in_err-lines-clause-rest
+returns-in_err-lines-clause-rest g c =
+    let walked = portioned_goes c.loop-at.invariant.0 c.loop-at.invariant.1.portioned c.loop-at.at in
+    and_then (λ running. running) (λ running. (running.0, running.0)) walked (failed c.from_residual.result c.list_between.ensures.rest c.from_residual.ensures.0)
+
+pub returns-in_err-add_lines-clause-rest : goal.returns-in_err-add_lines-clause-rest
+returns-in_err-add_lines-clause-rest g c =
+    let walked = portioned_goes c.loop-at.invariant.0 c.loop-at.invariant.1.portioned c.loop-at.at in
+    let read = and_then (λ running. running) (λ running. (running.0, running.0)) walked c.in_ok-lines.ensures.rest in
+    failed c.from_residual-in_err-add_lines.result read c.from_residual-in_err-add_lines.ensures.0
+
+pub returns-then-not-branch-clause-rest : goal.returns-then-not-branch-clause-rest
+returns-then-not-branch-clause-rest g c =
+    let walked = portioned_goes c.loop-at.invariant.0 c.loop-at.invariant.1.portioned c.loop-at.at in
+    let read = and_then (λ running. running) (λ running. (running.0, running.0)) walked c.in_ok-lines.ensures.rest in
+    succeeded _ read
+
+pub returns-in_err-have_bytes-clause-rest : goal.returns-in_err-have_bytes-clause-rest
+returns-in_err-have_bytes-clause-rest g c =
+    let walked = portioned_goes c.loop-at.invariant.0 c.loop-at.invariant.1.portioned c.loop-at.at in
+    let read = and_then (λ running. running) (λ running. (running.0, running.0)) walked c.in_ok-lines.ensures.rest in
+    and_then (λ running. running) (λ running. (running, running)) read (failed c.from_residual-in_err-have_bytes.result c.have_bytes.ensures.rest c.from_residual-in_err-have_bytes.ensures.0)
+
+pub returns-then-not-branch-2-clause-rest : goal.returns-then-not-branch-2-clause-rest
+returns-then-not-branch-2-clause-rest g c =
+    let walked = portioned_goes c.loop-at.invariant.0 c.loop-at.invariant.1.portioned c.loop-at.at in
+    let read = and_then (λ running. running) (λ running. (running.0, running.0)) walked c.in_ok-lines.ensures.rest in
+    and_then (λ running. running) (λ running. (running, running)) read (succeeded _ c.in_ok-have_bytes.ensures.rest)
+
+pub returns-clause-rest : goal.returns-clause-rest
+returns-clause-rest g c = portioned_goes c.loop-at.invariant.0 c.loop-at.invariant.1.portioned _
