@@ -2,7 +2,6 @@ pub mod WholeRules
 pub mod Rising
 pub mod Apart
 pub mod Listed
-pub mod Onward
 pub mod PortionRows
 pub mod LongTexts
 pub mod WalkedFiles

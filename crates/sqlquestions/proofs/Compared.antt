@@ -10,6 +10,7 @@ use Rattle.sqltables.specs.Tables.{Tables, RowsMean, IsPieceRow, piece_of}
 use Rattle.sqltables.specs.Means.{Pends, IsRunning}
 use Rattle.sqltables.specs.OneState.{same_pieces, one_piece}
 use Rattle.sqltables.specs.Pieces.{HasPiece}
+use Rattle.sqlquestions.proofs.ManyQuestions.{Unmoved}
 use Rattle.sqltables.proofs.Building.{survives_then, survives_itself, keeps_then}
 use Rattle.sqltables.proofs.Gathering.{no_piece}
 use Rattle.sqltables.proofs.Runs.{itself_keeps}
@@ -36,6 +37,9 @@ pub record Compared (entry now : State) (place : Place) (bytes : List ℕ) (coun
   pub still : (v : Version) (tables : Tables) → IsVersion v → Pends v entry tables → Pends v now tables
   pub same : (v : Version) (tables : Tables) → IsVersion v → Pends v entry tables → IsTrue entry.in_transaction → HasCleanDisk now → (at : ℕ) → at < count
       → tables.piece (record { place = place; at = at }) ≡ piece_of bytes at
+
+pub unmoved : {entry now : State} {place : Place} {bytes : List ℕ} {count : ℕ} → Compared entry now place bytes count → Unmoved entry now
+unmoved c = record { uncommitted = c.uncommitted; survives = c.survives; inside = c.inside; running = c.running; still = c.still }
 
 pub none_compared : (s : State) (place : Place) (bytes : List ℕ) → Compared s s place bytes 0
 none_compared s place bytes = record {

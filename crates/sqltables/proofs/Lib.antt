@@ -12,6 +12,7 @@ pub mod Restrict
 pub mod Keys
 pub mod Ours
 pub mod Building
+pub mod Onward
 pub mod Ordered
 pub mod Readings
 pub mod StandingFiles

@@ -6,7 +6,7 @@ use Rattle.boxes.specs.State.{Place}
 use Rattle.sqltables.specs.Pieces.{HasPiece, IsPieceAt}
 use Rattle.sqltables.proofs.Gathering.{Gathered, ReadsNext, OpensOurs, gathers, ours_at, whole_at, no_bytes}
 use Rattle.sqlaudit.proofs.Digested.{gathered_goes, gathered_then, lacked_at, next_misfits}
-use Rattle.sqlaudit.proofs.Onward.{failed, followed, gave_up, succeeded}
+use Rattle.sqltables.proofs.Onward.{failed, followed, gave_up, succeeded}
 use Rattle.sqlaudit.proofs.digests.find_bytes.Goals as goal
 
 pub loop-tx-preserved : goal.loop-tx-preserved

@@ -7,7 +7,7 @@ use Rattle.sqlite.specs.Held.{state}
 use Rattle.boxes.specs.State.{Place}
 use Rattle.sqlaudit.specs.Opened.{AreBytesFound, HasBytes, IsBare, IsNotBare, LacksBytes, place_in}
 use Rattle.sqlaudit.proofs.Digested.{told, told_empty, none_told}
-use Rattle.sqlaudit.proofs.Onward.{failed, refused, succeeded, weaker}
+use Rattle.sqltables.proofs.Onward.{failed, refused, succeeded, weaker}
 use Rattle.sqlaudit.proofs.digests.has_bytes.Goals as goal
 
 pub returns-in_default-3-clause-read : goal.returns-in_default-3-clause-read

@@ -6,7 +6,7 @@ use Rattle.sqlaudit.specs.Opened.{HasBytes, LacksBytes}
 use Rattle.sqlaudit.proofs.Entries.{has_at}
 use Rattle.sqltables.proofs.Gathering.{OpensOurs}
 use Rattle.sqlaudit.proofs.Digested.{LooksOn, none_looked, looked_goes, looked_on, one_more}
-use Rattle.sqlaudit.proofs.Onward.{and_then, failed, succeeded}
+use Rattle.sqltables.proofs.Onward.{and_then, failed, succeeded}
 use Rattle.sqlaudit.proofs.digests.have_bytes.Goals as goal
 
 pub loop-file-init : goal.loop-file-init

@@ -1,4 +1,4 @@
-use Rattle.sqlaudit.proofs.Onward.{failed, succeeded}
+use Rattle.sqltables.proofs.Onward.{failed, succeeded}
 use Rattle.sqlaudit.proofs.digests.is_bare.Goals as goal
 
 pub returns-in_err-read_piece-clause-rest : goal.returns-in_err-read_piece-clause-rest

@@ -1,4 +1,4 @@
-use Rattle.sqlaudit.proofs.Onward.{failed, followed}
+use Rattle.sqltables.proofs.Onward.{failed, followed}
 use Rattle.sqlaudit.proofs.listing.list.Goals as goal
 
 pub returns-in_err-rows-clause-rest : goal.returns-in_err-rows-clause-rest

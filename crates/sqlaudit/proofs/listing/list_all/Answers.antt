@@ -9,7 +9,7 @@ use Rattle.sqlaudit.proofs.Extents.{is_version}
 use Rattle.sqlaudit.proofs.StillReads.{begins, goes_on, whole_still}
 use Rattle.sqlaudit.specs.Portions.{AreRowids}
 use Rattle.sqlaudit.proofs.LongTexts.{receipt_shown, counts_receipts, asks_receipts, file_numbers, counts_files, piece_shown, counts_pieces, asks_pieces, later}
-use Rattle.sqlaudit.proofs.Onward.{and_then, begun_then, failed, succeeded}
+use Rattle.sqltables.proofs.Onward.{and_then, begun_then, failed, succeeded}
 use Rattle.sqlaudit.proofs.PortionRows.{counted}
 use Rattle.sqlaudit.proofs.WholeTables.{lists_keys, lists_boxes, lists_receipts, lists_pieces}
 use Rattle.sqlaudit.proofs.listing.list_all.Goals as goal

@@ -7,7 +7,7 @@ use Rattle.sqltables.proofs.Ours.{versions_differ}
 use Rattle.sqlaudit.specs.Lines.{AreLines, HaveRowids, IsLimitLine}
 use Rattle.sqlaudit.proofs.StillReads.{begins, goes_on}
 use Rattle.sqlaudit.proofs.WholeTables.{lists_rules, lists_limits}
-use Rattle.sqlaudit.proofs.Onward.{begun_then, failed, succeeded}
+use Rattle.sqltables.proofs.Onward.{begun_then, failed, succeeded}
 use Rattle.sqlaudit.proofs.listing.list_second.Goals as goal
 
 pub returns-clause-listed : goal.returns-clause-listed

@@ -15,7 +15,7 @@ use Rattle.sqlaudit.specs.declared.rules.Lines.{Lines}
 use Rattle.sqlaudit.proofs.Extents.{is_version}
 use Rattle.sqlaudit.proofs.Tested.{AreLent, are_listed, unsound, unfit, lacks_files, lacks_totals, lacks_pieces, tested, pieces_are, pieces_lack}
 use Rattle.sqlaudit.proofs.WholeRules.{refuted}
-use Rattle.sqlaudit.proofs.Onward.{failed, not_called, refused, succeeded}
+use Rattle.sqltables.proofs.Onward.{failed, not_called, refused, succeeded}
 use Rattle.sqlaudit.proofs.opening.is_sound.Goals as goal
 
 pub returns-then-not-fit_version-clause-found : goal.returns-then-not-fit_version-clause-found

@@ -11,7 +11,7 @@ use Rattle.sqlaudit.proofs.Extents.{is_version}
 use Rattle.sqlaudit.proofs.StillReads.{begins, goes_on, whole_still}
 use Rattle.sqltables.proofs.StandingFiles.{if_ok_more}
 use Rattle.sqlaudit.proofs.Tested.{unversioned, lines_version, damaged, less}
-use Rattle.sqlaudit.proofs.Onward.{and_then, failed, succeeded}
+use Rattle.sqltables.proofs.Onward.{and_then, failed, succeeded}
 use Rattle.sqlaudit.proofs.EitherVersion.{sound_is_whole}
 use Rattle.sqlaudit.proofs.opening.look.Goals as goal
 

@@ -10,7 +10,7 @@ use Rattle.sqlaudit.specs.Formats.{version_of}
 use Rattle.sqlaudit.proofs.Extents.{is_version}
 use Rattle.sqlaudit.proofs.StillReads.{begins, goes_on, whole_still}
 use Rattle.sqlaudit.proofs.Tested.{damaged, found_of}
-use Rattle.sqlaudit.proofs.Onward.{and_then, failed, succeeded, weaker}
+use Rattle.sqltables.proofs.Onward.{and_then, failed, succeeded, weaker}
 use Rattle.sqlaudit.proofs.opening.look_at_all.Goals as goal
 
 pub returns-clause-found : goal.returns-clause-found

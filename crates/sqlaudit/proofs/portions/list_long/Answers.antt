@@ -9,7 +9,7 @@ use Rattle.sqlaudit.specs.Lines.{AreLinesWhere, HaveRowids}
 use Rattle.sqlaudit.specs.Portions.{AreRowids, Passes}
 use Rattle.sqlaudit.proofs.PortionRows.{counted}
 use Rattle.sqlaudit.proofs.StillReads.{begins, goes_on}
-use Rattle.sqlaudit.proofs.Onward.{and_then, failed}
+use Rattle.sqltables.proofs.Onward.{and_then, failed}
 use Rattle.sqlaudit.proofs.portions.list_long.Goals as goal
 
 pub returns-clause-read : goal.returns-clause-read

@@ -2,7 +2,7 @@ use Rattle.std.proofs.lemmas.Result.{IfOk-weaker}
 use Rattle.sqlite.specs.Held.{state}
 use Rattle.sqlaudit.specs.Lines.{AreNumbersOf}
 use Rattle.sqlaudit.specs.Portions.{ShowsNumbers}
-use Rattle.sqlaudit.proofs.Onward.{failed, followed}
+use Rattle.sqltables.proofs.Onward.{failed, followed}
 use Rattle.sqlaudit.proofs.portions.list_numbers.Goals as goal
 
 pub returns-clause-read : goal.returns-clause-read

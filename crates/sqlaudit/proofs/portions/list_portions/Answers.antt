@@ -1,7 +1,7 @@
 use Rattle.std.proofs.Common.{◌≡◌, ◌+◌, ◌++◌, ◌-◌, ◌≤◌, pos, get_or, to_z, of_z, w64, length, rules, refl, sym, subst, ◌∙◌}
 use Rattle.sqlite.specs.Held.{state}
 use Rattle.sqlaudit.proofs.PortionRows.{Opens, Portioned, ReadsOn, none_read, read_on, all_read}
-use Rattle.sqlaudit.proofs.Onward.{and_then, failed, gave_up}
+use Rattle.sqltables.proofs.Onward.{and_then, failed, gave_up}
 use Rattle.sqlaudit.proofs.PortionRows.{portioned_goes}
 use Rattle.sqlaudit.proofs.portions.list_portions.Goals as goal
 

@@ -15,7 +15,7 @@ use Rattle.sqlaudit.proofs.FileEntries.{no_sums}
 use Rattle.sqlaudit.proofs.LongTexts.{files_between, file_shown}
 use Rattle.sqlaudit.proofs.PortionRows.{ReadsOn, GoesFrom, none_read, portioned_goes}
 use Rattle.sqlaudit.proofs.WalkedFiles.{OpensWhole, opens_files, seen_then, unfiled_portion, lacking_portion, walked_on, all_walked}
-use Rattle.sqlaudit.proofs.Onward.{and_then, failed, succeeded}
+use Rattle.sqltables.proofs.Onward.{and_then, failed, succeeded}
 use Rattle.sqlaudit.proofs.walking.test_files.Goals as goal
 
 pub loop-at-init : goal.loop-at-init

@@ -6,7 +6,9 @@ use Rattle.boxes.specs.State.{Place}
 use Rattle.sqltables.specs.Tables.{piece_of}
 use Rattle.sqltables.specs.Staging.{held}
 use Rattle.sqltables.proofs.Held.{none_left}
-use Rattle.sqlquestions.proofs.Compared.{Compared, IsNext, none_compared, one_more, all_same, not_same}
+use Rattle.sqlquestions.proofs.Compared.{unmoved, Compared, IsNext, none_compared, one_more, all_same, not_same}
+use Rattle.sqltables.proofs.Onward.{failed, followed, succeeded}
+use Rattle.sqlquestions.proofs.ManyQuestions.{unmoved_and, unmoved_goes}
 use Rattle.sqlquestions.proofs.comparing.has_pieces.Goals as goal
 
 pub loop-piece-init : goal.loop-piece-init
@@ -57,3 +59,18 @@ returns-clause-found g c v tables there ours pends size pieces inside clean =
 
 pub returns-then-not-branch-clause-still : goal.returns-then-not-branch-clause-still
 returns-then-not-branch-clause-still g c v tables ours pends = c.in_ok-is_piece.ensures.still v tables ours (c.loop-piece.invariant.1.still v tables ours pends)
+
+pub returns-in_err-is_piece-clause-rest : goal.returns-in_err-is_piece-clause-rest
+returns-in_err-is_piece-clause-rest g c = failed c.from_residual.result (unmoved_and c.loop-piece.invariant.0 (unmoved c.loop-piece.invariant.1) c.is_piece.ensures.rest) c.from_residual.ensures.0
+
+pub returns-then-not-branch-clause-rest : goal.returns-then-not-branch-clause-rest
+returns-then-not-branch-clause-rest g c = succeeded _ (unmoved_and c.loop-piece.invariant.0 (unmoved c.loop-piece.invariant.1) c.in_ok-is_piece.ensures.rest)
+
+pub returns-in-None-clause-rest : goal.returns-in-None-clause-rest
+returns-in-None-clause-rest g c = followed _ (unmoved_and c.loop-piece.invariant.0 (unmoved c.loop-piece.invariant.1) c.in_ok-is_piece.ensures.rest)
+
+pub returns-clause-still : goal.returns-clause-still
+returns-clause-still g c = λ v tables ours pends. c.loop-piece.invariant.1.still v tables ours pends
+
+pub returns-clause-rest : goal.returns-clause-rest
+returns-clause-rest g c = unmoved_goes c.loop-piece.invariant.0 (unmoved c.loop-piece.invariant.1) _

@@ -7,6 +7,7 @@ use Rattle.sqlite.specs.Held.{state}
 use Rattle.boxes.specs.State.{Place}
 use Rattle.sqltables.specs.Pieces.{IsPieceAt, HasPiece}
 use Rattle.sqlquestions.proofs.Compared.{piece_there, no_piece_there}
+use Rattle.sqltables.proofs.Onward.{failed, succeeded}
 use Rattle.sqlquestions.proofs.comparing.is_piece.Goals as goal
 
 same_told : (a b : List ℕ) (t : Bool) → t ≡ same_bytes a b → IsTrue t ↔ a ≡ b
@@ -40,3 +41,12 @@ returns-in-None-clause-found g c v tables ours pends inside clean =
     let none = no_piece_there tables (old.now.trees 9) it.means.pieces place c.args.part
     (subst (IsPieceAt (old.now.trees 9) place c.args.part) c.in-None.is (c.in_ok-piece.ensures.read v ours (λ is_open. (pends early inside is_open).schema) (λ is_open. (pends early inside is_open).sound) inside clean)) in
     (λ t. let e : ◌≡◌ false true = t in absurd cc, λ some. absurd (none c.args.bytes.now some))
+
+pub returns-in_err-piece-clause-rest : goal.returns-in_err-piece-clause-rest
+returns-in_err-piece-clause-rest g c = failed c.from_residual.result c.read_piece.ensures.rest c.from_residual.ensures.0
+
+pub returns-in-Some-clause-rest : goal.returns-in-Some-clause-rest
+returns-in-Some-clause-rest g c = succeeded _ c.in_ok-piece.ensures.rest
+
+pub returns-in-None-clause-rest : goal.returns-in-None-clause-rest
+returns-in-None-clause-rest g c = succeeded _ c.in_ok-piece.ensures.rest

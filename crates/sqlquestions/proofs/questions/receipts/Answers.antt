@@ -3,7 +3,8 @@ use Rattle.std.proofs.lemmas.List.{length_push}
 use Rattle.sqlite.specs.State.{HasCleanDisk}
 use Rattle.sqlite.specs.Held.{state}
 use Rattle.boxes.specs.Rows.{numbered}
-use Rattle.sqlquestions.proofs.ManyQuestions.{unmoved_then, lists_more, lists_all, no_more, digests_at, receipt_at}
+use Rattle.sqlquestions.proofs.ManyQuestions.{unmoved_and, unmoved_goes, unmoved_then, lists_more, lists_all, no_more, digests_at, receipt_at}
+use Rattle.sqltables.proofs.Onward.{failed, followed, succeeded}
 use Rattle.sqlquestions.proofs.questions.receipts.Goals as goal
 
 pub returns-in_default-clause-found : goal.returns-in_default-clause-found
@@ -52,3 +53,21 @@ returns-clause-found g c v tables receipts ours pends listed good inside clean =
     let few = i.1 in
     let same : length rows ≡ c.args.most = omega (arith, high, few) in
     i.4 v tables receipts ours pends listed good inside clean ∙ ap (λ k. take k (drop (c.args.from - 1) (numbered 1 receipts))) same
+
+pub returns-in_err-row-clause-rest : goal.returns-in_err-row-clause-rest
+returns-in_err-row-clause-rest g c = failed c.from_residual.result (unmoved_and c.loop-tx.invariant.2 c.loop-tx.invariant.3 c.receipt.ensures.rest) c.from_residual.ensures.0
+
+pub returns-in_default-clause-rest : goal.returns-in_default-clause-rest
+returns-in_default-clause-rest g c = succeeded _ (unmoved_and c.loop-tx.invariant.2 c.loop-tx.invariant.3 c.in_ok-row.ensures.rest)
+
+pub returns-in_err-push-clause-rest : goal.returns-in_err-push-clause-rest
+returns-in_err-push-clause-rest g c = failed c.from_residual-in_err-push.result (unmoved_and c.loop-tx.invariant.2 c.loop-tx.invariant.3 c.in_ok-row.ensures.rest) c.from_residual-in_err-push.ensures.0
+
+pub returns-in-None-clause-rest : goal.returns-in-None-clause-rest
+returns-in-None-clause-rest g c = followed _ (unmoved_and c.loop-tx.invariant.2 c.loop-tx.invariant.3 c.in_ok-row.ensures.rest)
+
+pub returns-clause-still : goal.returns-clause-still
+returns-clause-still g c = λ v tables ours pends. c.loop-tx.invariant.3.still v tables ours pends
+
+pub returns-clause-rest : goal.returns-clause-rest
+returns-clause-rest g c = unmoved_goes c.loop-tx.invariant.2 c.loop-tx.invariant.3 _

@@ -5,6 +5,7 @@ use Rattle.boxes.specs.State.{Place}
 use Rattle.boxes.specs.Views.{IsReceiptAt}
 use Rattle.sqltables.specs.Tables.{tables_of}
 use Rattle.sqltables.proofs.StandingFiles.{at_place, size_is, pieces_are, file_found}
+use Rattle.sqltables.proofs.Onward.{and_then, failed, succeeded}
 use Rattle.sqlquestions.proofs.standing.file.Goals as goal
 
 pub returns-clause-found : goal.returns-clause-found
@@ -20,3 +21,16 @@ returns-clause-found g c v s ours pends sound inside clean =
 
 pub returns-clause-still : goal.returns-clause-still
 returns-clause-still g c v tables ours pends = c.in_ok-bytes.ensures.still v tables ours (c.in_ok-receipt.ensures.still v tables ours pends)
+
+pub returns-in_err-receipt-clause-rest : goal.returns-in_err-receipt-clause-rest
+returns-in_err-receipt-clause-rest g c = failed c.from_residual.result c.standing_receipt.ensures.rest c.from_residual.ensures.0
+
+pub returns-in_default-clause-rest : goal.returns-in_default-clause-rest
+returns-in_default-clause-rest g c = succeeded _ c.in_ok-receipt.ensures.rest
+
+pub returns-in_err-bytes-clause-rest : goal.returns-in_err-bytes-clause-rest
+returns-in_err-bytes-clause-rest g c =
+    and_then (λ began. began) (λ running. (running, running.0)) c.in_ok-receipt.ensures.rest (failed c.from_residual-in_err-bytes.result c.file_bytes.ensures.rest c.from_residual-in_err-bytes.ensures.0)
+
+pub returns-clause-rest : goal.returns-clause-rest
+returns-clause-rest g c = and_then (λ began. began) (λ running. (running, running.0)) c.in_ok-receipt.ensures.rest (succeeded _ c.in_ok-bytes.ensures.rest)

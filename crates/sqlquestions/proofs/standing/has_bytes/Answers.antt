@@ -8,6 +8,7 @@ use Rattle.boxes.specs.Rules.{HasBytes}
 use Rattle.sqltables.specs.Tables.{tables_of, piece_of}
 use Rattle.sqltables.proofs.StandingFiles.{if_ok_more}
 use Rattle.sqltables.specs.Staging.{held}
+use Rattle.sqltables.proofs.Onward.{and_then, failed, succeeded}
 use Rattle.sqlquestions.proofs.standing.has_bytes.Goals as goal
 
 -- a file of this length exists
@@ -64,3 +65,15 @@ returns-clause-found g c v s ours pends sound inside clean =
 
 pub returns-clause-still : goal.returns-clause-still
 returns-clause-still g c v tables ours pends = c.has_pieces.ensures.still v tables ours (c.in_ok-size.ensures.still v tables ours pends)
+
+pub returns-in_err-size-clause-rest : goal.returns-in_err-size-clause-rest
+returns-in_err-size-clause-rest g c = failed c.from_residual.result c.standing_size.ensures.rest c.from_residual.ensures.0
+
+pub returns-in_default-clause-rest : goal.returns-in_default-clause-rest
+returns-in_default-clause-rest g c = succeeded _ c.in_ok-size.ensures.rest
+
+pub returns-then-size-len-clause-rest : goal.returns-then-size-len-clause-rest
+returns-then-size-len-clause-rest g c = succeeded _ c.in_ok-size.ensures.rest
+
+pub returns-clause-rest : goal.returns-clause-rest
+returns-clause-rest g c = and_then (λ began. began) (λ running. (running, running.0)) c.in_ok-size.ensures.rest c.has_pieces.ensures.rest

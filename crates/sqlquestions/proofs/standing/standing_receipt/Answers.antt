@@ -7,6 +7,7 @@ use Rattle.std.proofs.Common.{slice_get}
 use Rattle.sqltables.specs.Tables.{tables_of}
 use Rattle.sqltables.specs.Questions.{IsReceiptOf}
 use Rattle.sqltables.proofs.StandingFiles.{if_ok_more, standing, digests, kept, listed_at, receipt_found}
+use Rattle.sqltables.proofs.Onward.{begun_then, failed, succeeded}
 use Rattle.sqlquestions.proofs.standing.standing_receipt.Goals as goal
 
 pub returns-in-Some-clause-found : goal.returns-in-Some-clause-found
@@ -23,3 +24,12 @@ returns-in-Some-clause-found g c v s ours pends sound inside clean =
 
 pub returns-in-Some-clause-still : goal.returns-in-Some-clause-still
 returns-in-Some-clause-still g c v tables ours pends = c.receipt.ensures.still v tables ours (c.in_ok-number.ensures.still v tables ours pends)
+
+pub returns-in_err-number-clause-rest : goal.returns-in_err-number-clause-rest
+returns-in_err-number-clause-rest g c = failed c.from_residual.result c.file_number.ensures.rest c.from_residual.ensures.0
+
+pub returns-in-Some-clause-rest : goal.returns-in-Some-clause-rest
+returns-in-Some-clause-rest g c = begun_then c.in_ok-number.ensures.rest c.receipt.ensures.rest
+
+pub returns-in-None-clause-rest : goal.returns-in-None-clause-rest
+returns-in-None-clause-rest g c = succeeded _ c.in_ok-number.ensures.rest

@@ -1,0 +1,14 @@
+use Rattle.sqltables.proofs.Onward.{failed, followed, succeeded}
+use Rattle.sqlquestions.proofs.questions.east.Goals as goal
+
+pub returns-in_err-row-clause-rest : goal.returns-in_err-row-clause-rest
+returns-in_err-row-clause-rest g c = failed c.from_residual.result c.select_office.ensures.rest c.from_residual.ensures.0
+
+pub returns-in_default-clause-rest : goal.returns-in_default-clause-rest
+returns-in_default-clause-rest g c = followed _ c.in_ok-row.ensures.rest
+
+pub returns-in_err-get-clause-rest : goal.returns-in_err-get-clause-rest
+returns-in_err-get-clause-rest g c = failed c.from_residual-in_err-get.result c.in_ok-row.ensures.rest c.from_residual-in_err-get.ensures.0
+
+pub returns-in-Ok-clause-rest : goal.returns-in-Ok-clause-rest
+returns-in-Ok-clause-rest g c = succeeded _ c.in_ok-row.ensures.rest
