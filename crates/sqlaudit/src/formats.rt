@@ -5,7 +5,7 @@ ghost use Rattle.sqltables.specs.Schema.{Version};
 ghost use Rattle.sqlaudit.specs.Formats.{version_of};
 
 /// The version of an office file, which determines its tables.
-#[derive(Clone, Copy, Debug, PartialEq, Eq)]
+#[derive(Clone, Copy)]
 pub(crate) enum Format {
     /// Version 1, with six tables. No link begins early, and no key is limited.
     First,

@@ -15,7 +15,7 @@ use std::alloc::{AllocError, Global};
 use std::collections::BTreeMap;
 
 /// A key, as given by its line.
-#[derive(Clone, Copy, PartialEq)]
+#[derive(Clone, Copy)]
 pub(crate) struct KeyEntry<'a> {
     pub(crate) role: Role,
     pub(crate) secret: &'a [u8],

@@ -49,7 +49,7 @@ pub enum Found {
 }
 
 /// How many of an office's tables exist.
-#[derive(Clone, Copy, Debug, PartialEq, Eq)]
+#[derive(Clone, Copy, PartialEq, Eq)]
 pub(crate) enum Extent {
     /// The first table does not exist.
     Nothing,
