@@ -37,7 +37,7 @@ PER_LINE = 0.05
 # The share of a check that several processors do in parallel.
 PARALLEL = 0.5
 # A check has more than one processor only if at most so many have not begun.
-FEW = 5
+FEW = 2
 # The share of a check's memory that each processor more takes, as `rt` has it.
 MORE_MEMORY = 0.6
 # The share of the free memory that checks may take.
