@@ -1,15 +1,11 @@
 //! `drop init`: makes an office file.
-ghost use Rattle.std.specs.Prelude.{◌≡◌, ◌≤◌, ◌⊎◌, pos, neg_ℤ, ◌≤ℤ◌, IfErr, IfOk, IfSome, IsOk, IsTrue};
-ghost use Rattle.sqlite.specs.State.{HasCleanDisk};
+ghost use Rattle.std.specs.Prelude.{◌≡◌, ◌≤◌, ◌⊎◌, pos, neg_ℤ, ◌≤ℤ◌, IfOk, IfSome, IsOk, IsTrue};
 ghost use Rattle.sqlite.specs.Files.{file_state};
 ghost use Rattle.sqlite.specs.Held.{state};
 ghost use Rattle.sqlite.specs.Recovery.{Image};
 ghost use Rattle.sqlite.specs.WalFiles.{image_at};
 ghost use Rattle.sigv4.specs.Credential.{IsKeyId, IsSecret};
 ghost use Rattle.boxes.specs.FirstState.{first_state};
-ghost use Rattle.boxes.specs.State.{State};
-ghost use Rattle.sqltables.specs.Kept.{KeepsState, LeavesStates, MayLeave};
-ghost use Rattle.sqltables.specs.Schema.{s0};
 ghost use Rattle.commands.specs.Wording.{IsNumber};
 ghost use Rattle.dropoffice.specs.Working.{MakesOn, OpensOn};
 ghost use Rattle.taskwork.specs.Leaving.{IsCleanLeft, IsClosed};

@@ -1,11 +1,9 @@
 //! `drop migrate`: migrates an office file from version 1 to version 2.
-ghost use Rattle.std.specs.Prelude.{IfErr, IfOk, IsOk};
-ghost use Rattle.sqlite.specs.State.{HasCleanDisk};
+ghost use Rattle.std.specs.Prelude.{IsOk};
 ghost use Rattle.sqlite.specs.Files.{file_state};
 ghost use Rattle.sqlite.specs.Held.{state};
 ghost use Rattle.sqlite.specs.Recovery.{Image};
 ghost use Rattle.sqlite.specs.WalFiles.{image_at};
-ghost use Rattle.sqlkeeper.specs.Versions.{IsOfficeFile};
 ghost use Rattle.taskwork.specs.Holding.{HoldsOurs};
 ghost use Rattle.dropoffice.specs.Working.{MigratesOn, OpensOn};
 ghost use Rattle.taskwork.specs.Leaving.{IsCleanLeft, IsClosed};
