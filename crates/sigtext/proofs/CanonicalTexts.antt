@@ -44,7 +44,7 @@ query_of-is sorted params h =
 -- the six parts in order
 abbrev pub in_row : List ℕ → List ℕ → List ℕ → List Header → List ℕ
 in_row method path query headers =
-    (method ++ 10 ∷ []) ++ ((uri_encoded Kept path ++ 10 ∷ []) ++ (query ++ (10 ∷ (canonical_headers headers ++ (10 ∷ (signed_headers headers ++ (10 ∷ codes "UNSIGNED-PAYLOAD")))))))
+    (method ++ 10 ∷ []) ++ ((uri_encoded Kept path ++ 10 ∷ []) ++ (query ++ (10 ∷ ((canonical_headers headers ++ 10 ∷ []) ++ (signed_headers headers ++ (10 ∷ codes "UNSIGNED-PAYLOAD"))))))
 
 -- six lines, grouped from the left and from the right
 pub six_lines : (a b c d e f : List ℕ) → a ++ 10 ∷ b ++ 10 ∷ c ++ 10 ∷ d ++ 10 ∷ e ++ 10 ∷ f ≡ a ++ 10 ∷ (b ++ 10 ∷ (c ++ 10 ∷ (d ++ 10 ∷ (e ++ 10 ∷ f))))
@@ -55,9 +55,11 @@ six_lines a b c d e f =
     append_assoc (front ++ 10 ∷ d) (10 ∷ e) (10 ∷ f) ∙ append_assoc front (10 ∷ d) (10 ∷ last) ∙ append_assoc (a ++ 10 ∷ b) (10 ∷ c) (10 ∷ later) ∙ append_assoc a (10 ∷ b) (10 ∷ (c ++ 10 ∷ later))
 
 regrouped : (a b c d e f : List ℕ)
-    → (a ++ 10 ∷ []) ++ ((b ++ 10 ∷ []) ++ (c ++ (10 ∷ (d ++ (10 ∷ (e ++ (10 ∷ f))))))) ≡ a ++ 10 ∷ b ++ 10 ∷ c ++ 10 ∷ d ++ 10 ∷ e ++ 10 ∷ f
+    → (a ++ 10 ∷ []) ++ ((b ++ 10 ∷ []) ++ (c ++ (10 ∷ ((d ++ 10 ∷ []) ++ (e ++ (10 ∷ f)))))) ≡ a ++ 10 ∷ b ++ 10 ∷ c ++ 10 ∷ d ++ 10 ∷ e ++ 10 ∷ f
 regrouped a b c d e f =
-    append_assoc a (10 ∷ []) _ ∙ ap (λ (t : List ℕ). a ++ 10 ∷ t) (append_assoc b (10 ∷ []) (c ++ 10 ∷ (d ++ 10 ∷ (e ++ 10 ∷ f)))) ∙ sym (six_lines a b c d e f)
+    let last = e ++ 10 ∷ f in
+    append_assoc a (10 ∷ []) _ ∙ ap (λ (t : List ℕ). a ++ 10 ∷ t) (append_assoc b (10 ∷ []) (c ++ 10 ∷ ((d ++ 10 ∷ []) ++ last)))
+    ∙ ap (λ (t : List ℕ). a ++ 10 ∷ (b ++ 10 ∷ (c ++ 10 ∷ t))) (append_assoc d (10 ∷ []) last) ∙ sym (six_lines a b c d e f)
 
 in_row-is : (r : Signed) (query : List ℕ) → in_row r.method r.path query r.headers ≡ canonical_text r query
 unfolding canonical_text

@@ -53,9 +53,7 @@ pub fn canonical_into<S: ByteSink>(parts: &Parts<'_>, sink: &mut S) -> Result<()
     send_query(items, sink)?;
     sink.take(b"\n")?;
     send_headers(fields, sink)?;
-    sink.take(b"\n")?;
-    send_names(fields, sink)?;
-    sink.take(b"\nUNSIGNED-PAYLOAD")
+    send_names(fields, sink)
 }
 
 impl Params<'_> {
@@ -157,27 +155,29 @@ fn send_header<S: ByteSink>(field: &Field<'_>, sink: &mut S) -> Result<(), Alloc
     send_line(field.value, sink)
 }
 
-// Sends the headers in order.
+// Sends the headers in order, and a line feed.
 fn send_headers<S: ByteSink>(fields: &[Field<'_>], sink: &mut S) -> Result<(), AllocError>
     ensures ok { OnOk result
-        (S.takes sink.old (canonical_headers (map signed_header fields.now)) sink.new) }
+        (S.takes sink.old (canonical_headers (map signed_header fields.now) ++ 10 ∷ []) sink.new) }
     ensures err { OnErr result
         (TakesBeginning S.takes sink.old
-        (canonical_headers (map signed_header fields.now)) sink.new) }
+        (canonical_headers (map signed_header fields.now) ++ 10 ∷ []) sink.new) }
     ensures sure { S.never_fails ≡ true → IsOk result }
 {
     for field in fields {
         send_header(field, sink)?;
     }
-    Ok(())
+    sink.take(b"\n")
 }
 
-// Sends the names of the headers in lower case, joined by `;`.
+// Sends the names of the headers in lower case, joined by `;`, a line feed and the last line.
 fn send_names<S: ByteSink>(fields: &[Field<'_>], sink: &mut S) -> Result<(), AllocError>
     ensures ok { OnOk result
-        (S.takes sink.old (signed_headers (map signed_header fields.now)) sink.new) }
+        (S.takes sink.old
+        (signed_headers (map signed_header fields.now) ++ codes "\nUNSIGNED-PAYLOAD") sink.new) }
     ensures err { OnErr result
-        (TakesBeginning S.takes sink.old (signed_headers (map signed_header fields.now)) sink.new) }
+        (TakesBeginning S.takes sink.old
+        (signed_headers (map signed_header fields.now) ++ codes "\nUNSIGNED-PAYLOAD") sink.new) }
     ensures sure { S.never_fails ≡ true → IsOk result }
 {
     let mut separator: &[u8] = b"";
@@ -186,5 +186,5 @@ fn send_names<S: ByteSink>(fields: &[Field<'_>], sink: &mut S) -> Result<(), All
         send_lower_case(field.name, sink)?;
         separator = b";";
     }
-    Ok(())
+    sink.take(b"\nUNSIGNED-PAYLOAD")
 }

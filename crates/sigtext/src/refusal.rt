@@ -1,6 +1,6 @@
 //! The refusals: the rule that failed, and the number, status, word and text of its answer.
 
-/// Why a message is refused. Each variant is the rule that failed.
+/// Why a message is refused. Each variant is the rule that failed. They stand in the order of their numbers.
 #[derive(Clone, Copy, Debug, PartialEq, Eq)]
 pub enum Refusal {
     /// The head, which ends at the first CR LF CR LF, is malformed or has more than 64 fields.
@@ -83,72 +83,84 @@ impl Refusal {
     ghost use Rattle.std.specs.Prelude.{◌≡◌};
     ghost use Rattle.sigtext.specs.Refusals.{number_of, status_of, word_of, text_of};
 
-    // The number, the status and the error code.
-    fn row(self) -> (u8, u16, &'static str)
-        ensures number { result.0 ≡ number_of self }
-        ensures status { result.1 ≡ status_of self }
-        ensures word { result.2.now ≡ word_of self }
-    {
-        match self {
-            Refusal::HeadMalformed => (1, 400, "InvalidRequest"),
-            Refusal::HeadTooLong => (2, 400, "InvalidRequest"),
-            Refusal::TransferCoding => (3, 501, "NotImplemented"),
-            Refusal::LengthMalformed => (4, 400, "InvalidRequest"),
-            Refusal::BodyTooLarge => (5, 400, "EntityTooLarge"),
-            Refusal::BodyIncomplete => (6, 400, "IncompleteBody"),
-            Refusal::Method => (7, 405, "MethodNotAllowed"),
-            Refusal::Target => (8, 400, "InvalidURI"),
-            Refusal::NotSigned => (9, 403, "AccessDenied"),
-            Refusal::Parameters => (10, 400, "AuthorizationQueryParametersError"),
-            Refusal::Algorithm => (11, 400, "AuthorizationQueryParametersError"),
-            Refusal::Credential => (12, 400, "AuthorizationQueryParametersError"),
-            Refusal::Date => (13, 400, "AuthorizationQueryParametersError"),
-            Refusal::Expiry => (14, 400, "AuthorizationQueryParametersError"),
-            Refusal::SignedHeaders => (15, 400, "AuthorizationQueryParametersError"),
-            Refusal::SignatureText => (16, 400, "AuthorizationQueryParametersError"),
-            Refusal::SignedValues => (17, 400, "InvalidRequest"),
-            Refusal::HeaderNotSigned => (18, 403, "AccessDenied"),
-            Refusal::KeyUnknown => (19, 403, "InvalidAccessKeyId"),
-            Refusal::KeyRevoked => (20, 403, "InvalidAccessKeyId"),
-            Refusal::SignatureMismatch => (21, 403, "SignatureDoesNotMatch"),
-            Refusal::NotYetValid => (22, 403, "AccessDenied"),
-            Refusal::Expired => (23, 403, "AccessDenied"),
-            Refusal::RoleNotAllowed => (24, 403, "AccessDenied"),
-            Refusal::LengthMissing => (25, 411, "MissingContentLength"),
-            Refusal::BodyNotTaken => (26, 400, "InvalidRequest"),
-            Refusal::NoSuchBox => (27, 404, "NoSuchBucket"),
-            Refusal::NameTooLong => (28, 400, "KeyTooLongError"),
-            Refusal::NameNotAllowed => (29, 400, "InvalidArgument"),
-            Refusal::BoxClosed => (30, 403, "AccessDenied"),
-            Refusal::OtherBytesKept => (31, 412, "PreconditionFailed"),
-            Refusal::TooManyFiles => (32, 403, "AccessDenied"),
-            Refusal::QuotaPassed => (33, 403, "AccessDenied"),
-            Refusal::NoSuchFile => (34, 404, "NoSuchKey"),
-            Refusal::CommandMalformed => (35, 400, "InvalidArgument"),
-            Refusal::CommandNotPossible => (36, 400, "InvalidArgument"),
-            Refusal::TryAgain => (40, 500, "InternalError"),
-        }
-    }
-
     /// The number of the rule: 1 to 36, or 40.
     pub fn number(self) -> u8
         ensures { result ≡ number_of self }
     {
-        self.row().0
+        match self {
+            Refusal::TryAgain => 40,
+            rule => rule as u8 + 1,
+        }
     }
 
     /// The status of the answer (RFC 9110, section 15): 400 to 501.
     pub fn status(self) -> u16
         ensures { result ≡ status_of self }
     {
-        self.row().1
+        match self {
+            Refusal::TransferCoding => 501,
+            Refusal::Method => 405,
+            Refusal::NotSigned
+            | Refusal::HeaderNotSigned
+            | Refusal::KeyUnknown
+            | Refusal::KeyRevoked
+            | Refusal::SignatureMismatch
+            | Refusal::NotYetValid
+            | Refusal::Expired
+            | Refusal::RoleNotAllowed
+            | Refusal::BoxClosed
+            | Refusal::TooManyFiles
+            | Refusal::QuotaPassed => 403,
+            Refusal::LengthMissing => 411,
+            Refusal::NoSuchBox | Refusal::NoSuchFile => 404,
+            Refusal::OtherBytesKept => 412,
+            Refusal::TryAgain => 500,
+            _ => 400,
+        }
     }
 
     /// The error code at the beginning of the body, such as `AccessDenied`.
     pub fn word(self) -> &'static str
         ensures { result.now ≡ word_of self }
     {
-        self.row().2
+        match self {
+            Refusal::HeadMalformed
+            | Refusal::HeadTooLong
+            | Refusal::LengthMalformed
+            | Refusal::SignedValues
+            | Refusal::BodyNotTaken => "InvalidRequest",
+            Refusal::TransferCoding => "NotImplemented",
+            Refusal::BodyTooLarge => "EntityTooLarge",
+            Refusal::BodyIncomplete => "IncompleteBody",
+            Refusal::Method => "MethodNotAllowed",
+            Refusal::Target => "InvalidURI",
+            Refusal::NotSigned
+            | Refusal::HeaderNotSigned
+            | Refusal::NotYetValid
+            | Refusal::Expired
+            | Refusal::RoleNotAllowed
+            | Refusal::BoxClosed
+            | Refusal::TooManyFiles
+            | Refusal::QuotaPassed => "AccessDenied",
+            Refusal::Parameters
+            | Refusal::Algorithm
+            | Refusal::Credential
+            | Refusal::Date
+            | Refusal::Expiry
+            | Refusal::SignedHeaders
+            | Refusal::SignatureText => "AuthorizationQueryParametersError",
+            Refusal::KeyUnknown | Refusal::KeyRevoked => "InvalidAccessKeyId",
+            Refusal::SignatureMismatch => "SignatureDoesNotMatch",
+            Refusal::LengthMissing => "MissingContentLength",
+            Refusal::NoSuchBox => "NoSuchBucket",
+            Refusal::NameTooLong => "KeyTooLongError",
+            Refusal::NameNotAllowed | Refusal::CommandMalformed | Refusal::CommandNotPossible => {
+                "InvalidArgument"
+            }
+            Refusal::OtherBytesKept => "PreconditionFailed",
+            Refusal::NoSuchFile => "NoSuchKey",
+            Refusal::TryAgain => "InternalError",
+        }
     }
 
     /// The text at the end of the body.

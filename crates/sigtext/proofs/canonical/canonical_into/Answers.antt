@@ -1,7 +1,7 @@
 use Rattle.std.proofs.Common.{refl}
 use Rattle.std.proofs.lemmas.Result.{on_ok_weaker, on_err_weaker}
 use Rattle.sigtext.proofs.CanonicalTexts.{text_of, text_of-is}
-use Rattle.sigtext.proofs.Sent.{sent_nothing, sent_more, sent_last, sent_part, sent_none, at_error}
+use Rattle.sigtext.proofs.Sent.{sent_nothing, sent_more, sent_last, sent_part, sent_last_part, sent_none, at_error}
 use Rattle.sigtext.proofs.canonical.canonical_into.Goals as goal
 
 pub returns-in_err-send_line-clause-err : goal.returns-in_err-send_line-clause-err
@@ -49,31 +49,6 @@ returns-in_err-send_headers-clause-err g c =
     let sent = sent_part _ joins query_end refl (rw c.as_slice-fields.ensures.value at c.in_err-send_headers.ensures.err) in
     at_error c.from_residual-in_err-send_headers.result (λ signed are. (text_of c.args.parts.now, text_of-is c.args.parts.now signed are, sent))
 
-pub returns-in_err-take-2-clause-err : goal.returns-in_err-take-2-clause-err
-returns-in_err-take-2-clause-err g c =
-    let joins = g.met.S.ByteSink.joins in
-    let start = sent_nothing {whole = text_of c.args.parts.now} refl (g.met.S.ByteSink.nothing c.args.sink.now) in
-    let line = sent_more joins start refl c.in_ok-send_line.ensures.ok in
-    let path = sent_more joins line refl c.in_ok-send_path.ensures.ok in
-    let query = sent_more joins path refl (rw c.as_slice-items.ensures.value at c.in_ok-send_query.ensures.ok) in
-    let query_end = sent_more joins query refl c.in_ok-take.ensures.ok in
-    let headers = sent_more joins query_end refl (rw c.as_slice-fields.ensures.value at c.in_ok-send_headers.ensures.ok) in
-    let sent = sent_none joins headers c.in_err-take-2.ensures.err in
-    at_error c.from_residual-in_err-take-2.result (λ signed are. (text_of c.args.parts.now, text_of-is c.args.parts.now signed are, sent))
-
-pub returns-in_err-send_names-clause-err : goal.returns-in_err-send_names-clause-err
-returns-in_err-send_names-clause-err g c =
-    let joins = g.met.S.ByteSink.joins in
-    let start = sent_nothing {whole = text_of c.args.parts.now} refl (g.met.S.ByteSink.nothing c.args.sink.now) in
-    let line = sent_more joins start refl c.in_ok-send_line.ensures.ok in
-    let path = sent_more joins line refl c.in_ok-send_path.ensures.ok in
-    let query = sent_more joins path refl (rw c.as_slice-items.ensures.value at c.in_ok-send_query.ensures.ok) in
-    let query_end = sent_more joins query refl c.in_ok-take.ensures.ok in
-    let headers = sent_more joins query_end refl (rw c.as_slice-fields.ensures.value at c.in_ok-send_headers.ensures.ok) in
-    let headers_end = sent_more joins headers refl c.in_ok-take-2.ensures.ok in
-    let sent = sent_part _ joins headers_end refl (rw c.as_slice-fields.ensures.value at c.in_err-send_names.ensures.err) in
-    at_error c.from_residual-in_err-send_names.result (λ signed are. (text_of c.args.parts.now, text_of-is c.args.parts.now signed are, sent))
-
 pub returns-clause-err : goal.returns-clause-err
 returns-clause-err g c =
     let joins = g.met.S.ByteSink.joins in
@@ -83,9 +58,7 @@ returns-clause-err g c =
     let query = sent_more joins path refl (rw c.as_slice-items.ensures.value at c.in_ok-send_query.ensures.ok) in
     let query_end = sent_more joins query refl c.in_ok-take.ensures.ok in
     let headers = sent_more joins query_end refl (rw c.as_slice-fields.ensures.value at c.in_ok-send_headers.ensures.ok) in
-    let headers_end = sent_more joins headers refl c.in_ok-take-2.ensures.ok in
-    let names = sent_more joins headers_end refl (rw c.as_slice-fields.ensures.value at c.in_ok-send_names.ensures.ok) in
-    on_err_weaker c.take-3.result (λ h signed are. (text_of c.args.parts.now, text_of-is c.args.parts.now signed are, sent_none joins names h)) c.take-3.ensures.err
+    on_err_weaker c.send_names.result (λ h signed are. (text_of c.args.parts.now, text_of-is c.args.parts.now signed are, sent_last_part joins headers h)) (rw c.as_slice-fields.ensures.value at c.send_names.ensures.err)
 
 pub returns-clause-ok : goal.returns-clause-ok
 returns-clause-ok g c =
@@ -96,6 +69,4 @@ returns-clause-ok g c =
     let query = sent_more joins path refl (rw c.as_slice-items.ensures.value at c.in_ok-send_query.ensures.ok) in
     let query_end = sent_more joins query refl c.in_ok-take.ensures.ok in
     let headers = sent_more joins query_end refl (rw c.as_slice-fields.ensures.value at c.in_ok-send_headers.ensures.ok) in
-    let headers_end = sent_more joins headers refl c.in_ok-take-2.ensures.ok in
-    let names = sent_more joins headers_end refl (rw c.as_slice-fields.ensures.value at c.in_ok-send_names.ensures.ok) in
-    on_ok_weaker c.take-3.result (λ h signed are. (text_of c.args.parts.now, text_of-is c.args.parts.now signed are, sent_last joins names h)) c.take-3.ensures.ok
+    on_ok_weaker c.send_names.result (λ h signed are. (text_of c.args.parts.now, text_of-is c.args.parts.now signed are, sent_last joins headers h)) (rw c.as_slice-fields.ensures.value at c.send_names.ensures.ok)
