@@ -30,3 +30,4 @@ pub mod SameTexts
 pub mod DigitTexts
 pub mod Needles
 pub mod Unescaped
+pub mod Tested

@@ -1,12 +1,11 @@
 -- The parameters that raw names and values spell, and consequences of the order of their encoded names.
-use Rattle.std.proofs.Common.{◌≡◌, ℕ, zero, suc, ◌+◌, ◌<◌, Bool, true, false, List, [], ◌∷◌, ◌++◌, length, get_or, refl, sym, ap, subst, ◌∙◌, arith, All, map}
-use Rattle.std.specs.Borrow.{Bor}
-use Rattle.std.specs.Prelude.{Option, Some, IsPermutation}
+use Rattle.std.proofs.Common.{◌≡◌, ℕ, zero, suc, ◌+◌, ◌<◌, Bool, true, false, List, [], ◌∷◌, length, get_or, refl, sym, ap, subst, ◌∙◌, arith, All, map}
+use Rattle.std.specs.Prelude.{IsPermutation}
+use Rattle.std.specs.Iterator.{Drains}
 use Rattle.std.specs.List.{IsAllAdjacentAnswer}
 use Rattle.std.specs.List.Sorted.{IsSortedBy}
 use Rattle.std.specs.Ordering.{is_lt}
 use Rattle.std.proofs.lemmas.Bool.{and_from, and_left, and_right}
-use Rattle.std.proofs.lemmas.List.{append_assoc}
 use Rattle.std.proofs.lemmas.Simd.{map-map}
 use Rattle.std.proofs.lemmas.List.Elements.{All-nil, All-cons, All-head, All-tail}
 use Rattle.std.proofs.lemmas.List.Sorted.{IsPermutation-map, All-permutation}
@@ -57,34 +56,16 @@ spell_decodings : (raws : List RawParam) → All SpellsItsDecoding raws → Spel
 spell_decodings [] s = tt
 spell_decodings (raw ∷ raws) s = (All-head SpellsItsDecoding raw raws s, spell_decodings raws (All-tail SpellsItsDecoding raw raws s))
 
--- one more at the end
-spell_push : (raws : List RawParam) (params : List Param) (raw : RawParam) (p : Param) → SpellRawParams raws params → SpellRawParam raw p → SpellRawParams (raws ++ raw ∷ []) (params ++ p ∷ [])
-spell_push [] [] raw p s w = (w, tt)
-spell_push [] (q ∷ params) raw p s w = absurd s
-spell_push (r ∷ raws) [] raw p s w = absurd s
-spell_push (r ∷ raws) (q ∷ params) raw p s w = (s.0, spell_push raws params raw p s.1 w)
-
 -- ---- the pieces of a query in order
 
--- the raw names and values so far spell the first parameters, and the rest spells the others
-pub record SplitsParams (raws : List RawParam) (left : Option (Bor (List ℕ))) (params : List Param) : Type 0 where
-  pub front : List Param
-  pub rest : List Param
-  pub joined : params ≡ front ++ rest
-  pub front_spelled : SpellRawParams raws front
-  pub rest_spelled : SpellsOptionalQuery left rest
-
-pub split_more : (before after : Pairs) (raws : List RawParam) (raw : RawParam) (params : List Param) → GivesNext before (Some raw) after
-    → SplitsParams raws before.left params → SplitsParams (raws ++ raw ∷ []) after.left params
-split_more before after raws raw params g s =
-    let one = g.param s.rest s.rest_spelled in
-    record {
-      front = s.front ++ one.0 ∷ [];
-      rest = one.1;
-      joined = s.joined ∙ ap (λ (ps : List Param). s.front ++ ps) one.2 ∙ sym (append_assoc s.front (one.0 ∷ []) one.1);
-      front_spelled = spell_push raws s.front raw one.0 s.front_spelled one.3;
-      rest_spelled = one.4;
-    }
+-- all raw names and values of a query spell its parameters
+pub all_spell : (pairs : Pairs) (raws : List RawParam) (params : List Param) → Drains GivesNext pairs raws → SpellsOptionalQuery pairs.left params → SpellRawParams raws params
+all_spell pairs [] params (after, (last, is, ended)) s =
+    let none = ended.param params (subst (λ (p : Pairs). SpellsOptionalQuery p.left params) is s) in
+    subst (SpellRawParams []) (sym none) tt
+all_spell pairs (raw ∷ raws) params (after, (last, went, ended)) s =
+    let one = went.1.param params s in
+    subst (SpellRawParams (raw ∷ raws)) (sym one.2) (one.3, all_spell went.0 raws one.1 (after, (last, went.2, ended)) one.4)
 
 -- ---- neighbours
 

@@ -1,11 +1,11 @@
 -- Texts with nothing to decode or encode.
 use Rattle.std.proofs.Common.{◌≡◌, ◌<◌, ℕ, Bool, true, false, not, nat_eq, List, [], ◌∷◌, length, get_or, ◌∙◌, ◌&&◌, refl, ap, sym, subst, arith, All}
-use Rattle.std.specs.Prelude.{IsTrue}
+use Rattle.std.specs.Prelude.{IsTrue, Option, None, Some, is_none}
 use Rattle.std.specs.List.{list_all, list_any}
-use Rattle.std.proofs.lemmas.Bool.{and_parts, eqb-false, false≢true, false_from_ne_true, not-false, or_parts}
+use Rattle.std.proofs.lemmas.Bool.{and_parts, eqb-true, eqb-false, eq-eqb, false≢true, false_from_ne_true, not-false, or_parts}
 use Rattle.std.proofs.lemmas.List.Elements.{All-from_get_or, All-head, All-tail}
-use Rattle.std.proofs.lemmas.List.Folds.{list_any_none}
-use Rattle.memchr.specs.Find.{Nowhere, Passes, is_byte}
+use Rattle.std.proofs.lemmas.List.Folds.{list_any_none, list_any_at}
+use Rattle.memchr.specs.Find.{IsFirstByte, Nowhere, Passes, is_byte}
 use Rattle.percent_encoding.specs.AsciiSet.{should_percent_encode}
 use Rattle.percent_encoding.specs.declared.ascii_set.AsciiSet.{AsciiSet}
 use Rattle.percent_encoding.specs.Percent.{percent_decode}
@@ -50,3 +50,11 @@ pub recoded_plain : (set : AsciiSet) → EscapesTheRest Encoded set → (text : 
 recoded_plain set escapes text small none =
     let all = all_stay set escapes text small none in
     ap (uri_encoded Encoded) (stays_decoded text all) ∙ encoded_plain Encoded text all
+
+-- whether a search for a byte finds nothing
+pub is_absent : (b : ℕ) (text : List ℕ) (r : Option ℕ) → IsFirstByte (is_byte b) text r → is_none r ≡ not (list_any (λ x. nat_eq b x) text)
+is_absent b text None none =
+    let each = All-from_get_or (λ x. nat_eq b x ≡ false) text 0 (λ i within. false_from_ne_true (nat_eq b (get_or text i 0)) (λ e. none i (omega arith) within (eq-eqb (get_or text i 0) b (sym (eqb-true b (get_or text i 0) e))))) in
+    sym (ap not (list_any_none (λ x. nat_eq b x) text each))
+is_absent b text (Some i) (before, is) =
+    sym (ap not (list_any_at (λ x. nat_eq b x) text i 0 before.high (eq-eqb b (get_or text i 0) (sym (eqb-true (get_or text i 0) b is)))))

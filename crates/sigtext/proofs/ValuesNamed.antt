@@ -153,3 +153,7 @@ any_signed name (f ∷ signed) = cc (any_signed name signed)
 -- a name that begins with the prefix must be signed
 pub counted : (begins r any : Bool) → begins ≡ true → r ≡ any → r ≡ (not begins || any)
 counted begins r any is e = e ∙ sym (ap (λ (b : Bool). not b || any) is)
+
+-- another name need not be
+pub spared : (begins any : Bool) → begins ≡ false → (not begins || any) ≡ true
+spared begins any is = ap (λ (b : Bool). not b || any) is

@@ -6,7 +6,7 @@ use percent_encoding::{AsciiSet, NON_ALPHANUMERIC, ascii_set, percent_encode};
 use std::alloc::AllocError;
 
 /// Whether `/` is kept, as in a path, or encoded, as everywhere else.
-#[derive(Clone, Copy, Debug, PartialEq, Eq)]
+#[derive(Clone, Copy)]
 pub enum Slash {
     /// `/` is kept.
     Kept,

@@ -82,10 +82,21 @@ fn has_double_space(value: &[u8]) -> bool
     memmem::find(value, b"  ").is_some()
 }
 
+fn is_printable(byte: u8) -> bool
+    ensures { result ≡ (nat_le 0x20 byte && nat_le byte 0x7E) }
+{
+    matches!(byte, 0x20..=0x7E)
+}
+
 fn is_plain(value: &[u8]) -> bool
     ensures { result ≡ list_all (λ b. nat_le 0x20 b && nat_le b 0x7E) value.now }
 {
-    value.iter().all(|byte| (0x20..=0x7E).contains(byte))
+    for byte in value {
+        if !is_printable(*byte) {
+            return false;
+        }
+    }
+    true
 }
 
 /// Whether the value may be signed: its bytes are 0x20 to 0x7E, and no two spaces are adjacent.

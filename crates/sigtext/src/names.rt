@@ -1,14 +1,12 @@
 //! The names of the signed headers.
-ghost use Rattle.std.specs.Prelude.{◌≡◌, ◌↔◌, ◌==◌, ◌∷◌, [], ℕ, List, IsTrue, IfOk, IfErr, codes, Contains};
-ghost use Rattle.std.specs.List.{AllByRecursion, slice_split};
+ghost use Rattle.std.specs.Prelude.{◌≡◌, ◌↔◌, ℕ, List, IsTrue, IfOk, IfErr};
 ghost use Rattle.sigtext.specs.SignedNames.{is_header_name_byte, IsHeaderName, AreSignedNames};
-ghost use Rattle.sigtext.specs.CanonicalQuery.{ascends};
 
 use crate::refusal::Refusal;
 use crate::words::is_word;
 
 /// The names of the signed headers: in lower case, strictly ascending, and with `host` among them.
-#[derive(Clone, Copy, Debug)]
+#[derive(Clone, Copy)]
 pub struct SignedNames<'a> {
     text: &'a [u8],
 }
@@ -24,7 +22,7 @@ impl<'a> SignedNames<'a> {
             (λ q. (q ≡ Refusal.SignedHeaders)
             × ((names : List (List ℕ)) → AreSignedNames text.now names → ⊥)) }
     {
-        if has_form(text) && are_ascending(text) && has_host(text) {
+        if are_names(text) {
             Ok(SignedNames { text })
         } else {
             Err(Refusal::SignedHeaders)
@@ -52,31 +50,18 @@ pub fn is_header_name(text: &[u8]) -> bool
     is_word(text, 64, is_name_byte)
 }
 
-// Whether each piece of the text, split at `;`, is a header name.
-fn has_form(text: &[u8]) -> bool
-    ensures { IsTrue result ↔ AllByRecursion IsHeaderName (slice_split (λ b. b == 59) text.now) }
-{
-    text.split(|byte| *byte == b';').all(is_header_name)
-}
-
-// Whether the pieces of the text, split at `;`, are strictly ascending, and the first is not empty.
-fn are_ascending(text: &[u8]) -> bool
-    ensures { result ≡ ascends ([] ∷ slice_split (λ b. b == 59) text.now) }
+// Whether the pieces of the text, split at `;`, are header names and strictly ascending, and one is `host`.
+fn are_names(text: &[u8]) -> bool
+    ensures { IsTrue result ↔ ((names : List (List ℕ)) × AreSignedNames text.now names) }
 {
     let mut before: &[u8] = &[];
+    let mut has_host = false;
     for name in text.split(|byte| *byte == b';') {
-        if before >= name {
+        if before >= name || !is_header_name(name) {
             return false;
         }
+        has_host |= name == b"host".as_slice();
         before = name;
     }
-    true
-}
-
-// Whether `host` is a piece of the text, split at `;`.
-fn has_host(text: &[u8]) -> bool
-    ensures { IsTrue result ↔ Contains (slice_split (λ b. b == 59) text.now) (codes "host") }
-{
-    text.split(|byte| *byte == b';')
-        .any(|name| name == b"host".as_slice())
+    has_host
 }

@@ -71,9 +71,7 @@ fn collect<'a>(alloc: Global, target: &Target<'a>) -> Result<Vec<RawParam<'a>>, 
         → SpellRawParams items.items params) }
 {
     let mut items = Vec::with_capacity(alloc, target.pairs().count())?;
-    for raw in target.pairs() {
-        items.push(raw)?;
-    }
+    items.extend(target.pairs())?;
     Ok(items)
 }
 
@@ -91,7 +89,12 @@ fn is_plain(text: &[u8]) -> bool
     ensures { IsTrue result → uri_encoded slash.Encoded (percent.percent_decode text.now) ≡ text.now }
 {
     let set = escaped(Slash::Encoded);
-    !text.iter().any(|byte| set.should_percent_encode(*byte))
+    for byte in text {
+        if set.should_percent_encode(*byte) {
+            return false;
+        }
+    }
+    true
 }
 
 // The order of the two raw names after they are decoded and encoded.

@@ -26,14 +26,14 @@ impl TextFault {
 }
 
 /// The raw path and query of a target, as slices of the text.
-#[derive(Clone, Copy, Debug)]
+#[derive(Clone, Copy)]
 pub struct Target<'a> {
     pub(crate) path: &'a [u8],
     query: Option<&'a [u8]>,
 }
 
 /// The raw name and value of one piece of a query (RFC 3986, section 3.4), as slices.
-#[derive(Clone, Copy, Debug)]
+#[derive(Clone, Copy)]
 pub struct RawParam<'a> {
     /// The bytes before the first `=`, or the whole piece if it has no `=`. An escape counts as three bytes.
     pub name: &'a [u8],
@@ -42,7 +42,7 @@ pub struct RawParam<'a> {
 }
 
 /// The raw names and values of a query, in order.
-#[derive(Clone, Copy, Debug)]
+#[derive(Clone, Copy)]
 pub struct Pairs<'a> {
     left: Option<&'a [u8]>,
 }
@@ -153,7 +153,7 @@ fn may_stand(byte: u8, barred: &[u8]) -> bool
 {
     (0x21..=0x7E).contains(&byte)
         && !matches!(byte, b'+' | b'#' | b'%')
-        && !barred.iter().any(|other| *other == byte)
+        && memchr(byte, barred).is_none()
 }
 
 // Whether the text begins with an escape: `%` and two hexadecimal digits.

@@ -1,6 +1,7 @@
 //! The values of the signed headers.
 ghost use Rattle.std.specs.Prelude.{◌≡◌, ◌≢◌, ◌==◌, ℕ, List, map, IfOk, IfErr, IfSome, IfNone};
-ghost use Rattle.std.specs.List.{list_all, slice_split};
+ghost use Rattle.std.specs.List.{list_all, list_any, slice_split};
+ghost use Rattle.sigtext.specs.Bytes.{same_bytes};
 ghost use Rattle.sigtext.specs.Fields.{header_of};
 ghost use Rattle.sigtext.specs.Rules.{IsFirstToFail, AllHold};
 ghost use Rattle.sigtext.specs.SignedHeaders.{Header, lower_case, IsSignedValue};
@@ -93,16 +94,16 @@ fn signed_field<'a>(fields: &[Field<'a>], name: &[u8]) -> Option<Field<'a>>
     })
 }
 
-// Whether the field is signed, or its name does not begin with `x-amz-`.
-fn covers(signed: &[Field<'_>], field: &Field<'_>) -> bool
-    ensures { result ≡ is_covered (map signed_header signed.now) (header_of field.now) }
+// Whether one of the fields has this name; ASCII case is ignored.
+fn has_name(fields: &[Field<'_>], name: &[u8]) -> bool
+    ensures { result ≡ list_any (λ s. same_bytes s.name (lower_case name.now)) (map signed_header fields.now) }
 {
-    if !is_amz_name(field.name) {
-        return true;
+    for field in fields {
+        if is_same_name(field.name, name) {
+            return true;
+        }
     }
-    signed
-        .iter()
-        .any(|value| is_same_name(value.name, field.name))
+    false
 }
 
 // Whether each field whose name begins with `x-amz-` is signed.
@@ -110,5 +111,10 @@ fn covers_all(signed: &[Field<'_>], fields: &[Field<'_>]) -> bool
     ensures { result ≡ list_all (is_covered (map signed_header signed.now))
         (map header_of fields.now) }
 {
-    fields.iter().all(|field| covers(signed, field))
+    for field in fields {
+        if is_amz_name(field.name) && !has_name(signed, field.name) {
+            return false;
+        }
+    }
+    true
 }

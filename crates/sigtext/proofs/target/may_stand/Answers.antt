@@ -1,9 +1,8 @@
-use Rattle.std.proofs.Common.{◌==◌, rules, tests}
-use Rattle.std.proofs.lemmas.Iterator.{YieldsList-from_slice}
-use Rattle.std.proofs.lemmas.Iterator.Search.{any_from_yields_List}
+use Rattle.std.proofs.Common.{rules, tests}
+use Rattle.sigtext.proofs.Unescaped.{is_absent}
 use Rattle.sigtext.proofs.target.may_stand.Goals as goal
 
 pub returns-then-not-matches : goal.returns-then-not-matches
 returns-then-not-matches c =
-    let barred = any_from_yields_List (λ x. c.args.byte == x) _ _ c.any.result c.any.ensures.ran (YieldsList-from_slice c.args.barred.now cc) (λ x b q k. search (rules, tests)) in
+    let barred = is_absent c.args.byte c.args.barred.now c.memchr.result c.memchr.ensures in
     search (rules, tests, barred)
