@@ -10,7 +10,7 @@ ghost use Rattle.sigv4.specs.Scopes.{scope_of};
 use sigtext::{Refusal, are_digits, cut, is_visible, is_word};
 
 /// A credential: the key id, and the parts of its scope that are not fixed.
-#[derive(Clone, Copy, Debug)]
+#[derive(Clone, Copy)]
 pub struct Scope<'a> {
     /// 1 to 64 bytes of `A-Z a-z 0-9 - _`.
     pub key_id: &'a [u8],
@@ -107,7 +107,9 @@ impl<'a> Scope<'a> {
             × ((key_id : List ℕ) (scope : CredentialScope)
             → IsCredential credential.now date.now key_id scope → ⊥)) }
     {
-        let scope = parts(credential).ok_or(Refusal::Credential)?;
+        let Some(scope) = parts(credential) else {
+            return Err(Refusal::Credential);
+        };
         if is_well_formed(&scope, date) {
             Ok(scope)
         } else {
