@@ -1,10 +1,34 @@
-use Rattle.std.proofs.Common.{◌≡◌, ◌<◌, length, ap, sym, ◌∙◌, arith, length-append}
+use Rattle.std.proofs.Common.{◌≡◌, ℕ, ◌<◌, ◌≤◌, List, ◌++◌, length, take, ap, sym, ◌∙◌, append_assoc, arith, length-append}
 use Rattle.std.proofs.lemmas.List.Elements.{All-from_get_or}
-use Rattle.std.proofs.lemmas.List.{append-nil}
+use Rattle.std.proofs.lemmas.List.{append-nil, take-append-le}
 use Rattle.percent_encoding.specs.Iter.{encoded_text}
 use Rattle.sigtext.specs.UriEncode.{uri_encoded}
 use Rattle.sigtext.proofs.Encoding.{percent_encode-is}
 use Rattle.sigtext.proofs.encode.uri_encode.Goals as goal
+
+-- one more piece
+one_more : (out new piece bytes before later whole : List ℕ) → new ≡ out ++ bytes → bytes ≡ piece → before ≡ piece ++ later → out ++ before ≡ whole → new ++ later ≡ whole
+one_more out new piece bytes before later whole grown is step text =
+    ap (λ (t : List ℕ). t ++ later) (grown ∙ ap (λ (t : List ℕ). out ++ t) is) ∙ append_assoc out piece later ∙ ap (λ (t : List ℕ). out ++ t) (sym step) ∙ text
+
+same_front : (start : ℕ) (out new bytes front : List ℕ) → new ≡ out ++ bytes → start ≤ length out → take start out ≡ front → take start new ≡ front
+same_front start out new bytes front grown long is = ap (take start) grown ∙ take-append-le start out bytes long ∙ is
+
+longer : (start : ℕ) (out new bytes : List ℕ) → new ≡ out ++ bytes → start ≤ length out → start ≤ length new
+longer start out new bytes grown long = omega (arith, ap length grown, length-append out bytes, long)
+
+pub loop-piece-preserved : goal.loop-piece-preserved
+loop-piece-preserved c =
+    let out = c.loop-piece.out.items in
+    let new = c.extend_from_slice.new.self.items in
+    let sofar = c.loop-piece.invariant in
+    let grown = c.in_default.ensures.items in
+    record {
+      text = one_more out new c.in-Some.piece.now c.as_bytes.result.now _ _ _ grown c.as_bytes.ensures.value c.in-Some.ensures.steps sofar.text;
+      front = same_front c.len-start.result out new c.as_bytes.result.now c.args.out.now.items grown sofar.long sofar.front;
+      long = longer c.len-start.result out new c.as_bytes.result.now grown sofar.long;
+      room = omega (arith, c.in_default.ensures.capacity, sofar.room);
+    }
 
 pub returns-clause-ok : goal.returns-clause-ok
 returns-clause-ok c =
