@@ -79,6 +79,87 @@ pub enum Refusal {
     TryAgain,
 }
 
+// The status, the error code and the text of each refusal, in the order of the refusals.
+static ROWS: [(u16, &str, &str); 37] = [
+    (400, "InvalidRequest", "the head is not a request head"),
+    (400, "InvalidRequest", "the head is too long"),
+    (501, "NotImplemented", "transfer codings are not served"),
+    (400, "InvalidRequest", "Content-Length is malformed"),
+    (400, "EntityTooLarge", "the body is too large"),
+    (400, "IncompleteBody", "the input ended in the body"),
+    (405, "MethodNotAllowed", "the method is not served"),
+    (400, "InvalidURI", "the target is malformed"),
+    (403, "AccessDenied", "the request is not signed"),
+    (
+        400,
+        "AuthorizationQueryParametersError",
+        "the signing parameters are not the six",
+    ),
+    (
+        400,
+        "AuthorizationQueryParametersError",
+        "the algorithm is not AWS4-HMAC-SHA256",
+    ),
+    (
+        400,
+        "AuthorizationQueryParametersError",
+        "the credential is malformed",
+    ),
+    (
+        400,
+        "AuthorizationQueryParametersError",
+        "the date is malformed",
+    ),
+    (
+        400,
+        "AuthorizationQueryParametersError",
+        "the expiry is not 1 to 604800 seconds",
+    ),
+    (
+        400,
+        "AuthorizationQueryParametersError",
+        "the signed headers are malformed",
+    ),
+    (
+        400,
+        "AuthorizationQueryParametersError",
+        "the signature is not 64 lower-case hexadecimal digits",
+    ),
+    (
+        400,
+        "InvalidRequest",
+        "a signed header is absent, doubled or unfit",
+    ),
+    (403, "AccessDenied", "an x-amz- header is not signed"),
+    (403, "InvalidAccessKeyId", "the key is unknown"),
+    (403, "InvalidAccessKeyId", "the key is revoked"),
+    (403, "SignatureDoesNotMatch", "the signature does not match"),
+    (403, "AccessDenied", "the link is not valid yet"),
+    (403, "AccessDenied", "the link has expired"),
+    (403, "AccessDenied", "the key may not do this"),
+    (411, "MissingContentLength", "Content-Length is missing"),
+    (400, "InvalidRequest", "a body is not taken here"),
+    (404, "NoSuchBucket", "no such box"),
+    (400, "KeyTooLongError", "the name is too long"),
+    (400, "InvalidArgument", "the name is not allowed"),
+    (403, "AccessDenied", "the box is closed"),
+    (
+        412,
+        "PreconditionFailed",
+        "other bytes are kept under this name",
+    ),
+    (
+        403,
+        "AccessDenied",
+        "the box has its greatest number of files",
+    ),
+    (403, "AccessDenied", "the box's quota would be passed"),
+    (404, "NoSuchKey", "no such file"),
+    (400, "InvalidArgument", "the desk command is malformed"),
+    (400, "InvalidArgument", "the desk command is not possible"),
+    (500, "InternalError", "try again"),
+];
+
 impl Refusal {
     ghost use Rattle.std.specs.Prelude.{◌≡◌};
     ghost use Rattle.sigtext.specs.Refusals.{number_of, status_of, word_of, text_of};
@@ -97,114 +178,20 @@ impl Refusal {
     pub fn status(self) -> u16
         ensures { result ≡ status_of self }
     {
-        match self {
-            Refusal::TransferCoding => 501,
-            Refusal::Method => 405,
-            Refusal::NotSigned
-            | Refusal::HeaderNotSigned
-            | Refusal::KeyUnknown
-            | Refusal::KeyRevoked
-            | Refusal::SignatureMismatch
-            | Refusal::NotYetValid
-            | Refusal::Expired
-            | Refusal::RoleNotAllowed
-            | Refusal::BoxClosed
-            | Refusal::TooManyFiles
-            | Refusal::QuotaPassed => 403,
-            Refusal::LengthMissing => 411,
-            Refusal::NoSuchBox | Refusal::NoSuchFile => 404,
-            Refusal::OtherBytesKept => 412,
-            Refusal::TryAgain => 500,
-            _ => 400,
-        }
+        ROWS[self as usize].0
     }
 
     /// The error code at the beginning of the body, such as `AccessDenied`.
     pub fn word(self) -> &'static str
         ensures { result.now ≡ word_of self }
     {
-        match self {
-            Refusal::HeadMalformed
-            | Refusal::HeadTooLong
-            | Refusal::LengthMalformed
-            | Refusal::SignedValues
-            | Refusal::BodyNotTaken => "InvalidRequest",
-            Refusal::TransferCoding => "NotImplemented",
-            Refusal::BodyTooLarge => "EntityTooLarge",
-            Refusal::BodyIncomplete => "IncompleteBody",
-            Refusal::Method => "MethodNotAllowed",
-            Refusal::Target => "InvalidURI",
-            Refusal::NotSigned
-            | Refusal::HeaderNotSigned
-            | Refusal::NotYetValid
-            | Refusal::Expired
-            | Refusal::RoleNotAllowed
-            | Refusal::BoxClosed
-            | Refusal::TooManyFiles
-            | Refusal::QuotaPassed => "AccessDenied",
-            Refusal::Parameters
-            | Refusal::Algorithm
-            | Refusal::Credential
-            | Refusal::Date
-            | Refusal::Expiry
-            | Refusal::SignedHeaders
-            | Refusal::SignatureText => "AuthorizationQueryParametersError",
-            Refusal::KeyUnknown | Refusal::KeyRevoked => "InvalidAccessKeyId",
-            Refusal::SignatureMismatch => "SignatureDoesNotMatch",
-            Refusal::LengthMissing => "MissingContentLength",
-            Refusal::NoSuchBox => "NoSuchBucket",
-            Refusal::NameTooLong => "KeyTooLongError",
-            Refusal::NameNotAllowed | Refusal::CommandMalformed | Refusal::CommandNotPossible => {
-                "InvalidArgument"
-            }
-            Refusal::OtherBytesKept => "PreconditionFailed",
-            Refusal::NoSuchFile => "NoSuchKey",
-            Refusal::TryAgain => "InternalError",
-        }
+        ROWS[self as usize].1
     }
 
     /// The text at the end of the body.
     pub fn text(self) -> &'static str
         ensures { result.now ≡ text_of self }
     {
-        match self {
-            Refusal::HeadMalformed => "the head is not a request head",
-            Refusal::HeadTooLong => "the head is too long",
-            Refusal::TransferCoding => "transfer codings are not served",
-            Refusal::LengthMalformed => "Content-Length is malformed",
-            Refusal::BodyTooLarge => "the body is too large",
-            Refusal::BodyIncomplete => "the input ended in the body",
-            Refusal::Method => "the method is not served",
-            Refusal::Target => "the target is malformed",
-            Refusal::NotSigned => "the request is not signed",
-            Refusal::Parameters => "the signing parameters are not the six",
-            Refusal::Algorithm => "the algorithm is not AWS4-HMAC-SHA256",
-            Refusal::Credential => "the credential is malformed",
-            Refusal::Date => "the date is malformed",
-            Refusal::Expiry => "the expiry is not 1 to 604800 seconds",
-            Refusal::SignedHeaders => "the signed headers are malformed",
-            Refusal::SignatureText => "the signature is not 64 lower-case hexadecimal digits",
-            Refusal::SignedValues => "a signed header is absent, doubled or unfit",
-            Refusal::HeaderNotSigned => "an x-amz- header is not signed",
-            Refusal::KeyUnknown => "the key is unknown",
-            Refusal::KeyRevoked => "the key is revoked",
-            Refusal::SignatureMismatch => "the signature does not match",
-            Refusal::NotYetValid => "the link is not valid yet",
-            Refusal::Expired => "the link has expired",
-            Refusal::RoleNotAllowed => "the key may not do this",
-            Refusal::LengthMissing => "Content-Length is missing",
-            Refusal::BodyNotTaken => "a body is not taken here",
-            Refusal::NoSuchBox => "no such box",
-            Refusal::NameTooLong => "the name is too long",
-            Refusal::NameNotAllowed => "the name is not allowed",
-            Refusal::BoxClosed => "the box is closed",
-            Refusal::OtherBytesKept => "other bytes are kept under this name",
-            Refusal::TooManyFiles => "the box has its greatest number of files",
-            Refusal::QuotaPassed => "the box's quota would be passed",
-            Refusal::NoSuchFile => "no such file",
-            Refusal::CommandMalformed => "the desk command is malformed",
-            Refusal::CommandNotPossible => "the desk command is not possible",
-            Refusal::TryAgain => "try again",
-        }
+        ROWS[self as usize].2
     }
 }
