@@ -1,14 +1,16 @@
 -- The pieces of a text, split at `;`, in order.
 use Rattle.std.proofs.Common.{◌≡◌, ℕ, suc, ◌+◌, ◌<◌, ◌≤◌, Bool, true, false, not, eqb, List, [], ◌∷◌, length, drop, get_or, Option, Some, refl, sym, ap, subst, ◌∙◌, inl, inr, ⊎_elim, arith}
-use Rattle.std.specs.Prelude.{◌||◌, ◌↔◌, ◌⊎◌, Contains, codes}
-use Rattle.std.specs.List.{AllByRecursion, slice_split}
+use Rattle.std.specs.Prelude.{◌||◌, ◌↔◌, ◌⊎◌, Contains, codes, IsTrue, MatchBool}
+use Rattle.std.specs.List.{AllByRecursion, slice_split, AllWithin, HoldsAt}
 use Rattle.std.specs.Ordering.{nat_cmp, is_lt, is_ge, is_some_and, ordering_then, partial_ordering_then}
 use Rattle.std.specs.declared.cmp.Ordering.{Ordering}
 use Rattle.std.specs.declared.cmp.Ordering.TheVariants.{Less, Equal, Greater}
 use Rattle.std.specs.Cmp.Lexicographic.{slice_partial_cmp}
-use Rattle.std.proofs.lemmas.Bool.{and_parts, and_from, or_cases, or_right, true≢false, false≢true}
+use Rattle.std.proofs.lemmas.Bool.{and_parts, and_from, or_cases, or_right, true≢false, false≢true, MatchBool-at_true}
 use Rattle.std.proofs.lemmas.List.{at_drop_more, drop_all}
 use Rattle.std.proofs.lemmas.List.Splits.{join_with_byte-slice_split}
+use Rattle.std.proofs.lemmas.List.Elements.{All-from_recursion, recursion_from_All, All-from_all_within}
+use Rattle.std.proofs.lemmas.Iterator.Search.{true_from_All}
 use Rattle.std.proofs.lemmas.Slice.Eq.{bytes_eq-Decides}
 use Rattle.sigtext.specs.Bytes.{same_bytes, bytes_cmp}
 use Rattle.sigtext.specs.CanonicalQuery.{ascends}
@@ -37,6 +39,17 @@ other_way Greater = refl
 -- the test `>=` of two texts
 pub not_below : (a x : List ℕ) (r : Bool) → r ≡ is_some_and is_ge (slice_partial_cmp (λ (x : ℕ) (y : ℕ). Some (nat_cmp x y)) a x) → r ≡ not (is_lt (bytes_cmp a x))
 not_below a x r e = e ∙ ap (is_some_and is_ge) (compared a x) ∙ other_way (bytes_cmp a x)
+
+-- ---- each of some pieces
+
+-- the answer of `all` with a test that decides P
+pub each_piece : {X : Type 0} (P : X → Type 0) (r : Bool) (all : List X)
+    → MatchBool r (AllWithin P all 0 (length all)) ((k : ℕ) × (k < length all) × HoldsAt (λ x. P x → ⊥) all k)
+    → IsTrue r ↔ AllByRecursion P all
+each_piece P r all cases = (
+  λ t. recursion_from_All P all (All-from_all_within P all (MatchBool-at_true _ _ t cases)),
+  λ each. true_from_All P (λ x. P x → ⊥) r all (λ x p none. none p) cases (All-from_recursion P all each),
+)
 
 -- ---- the pieces that are left
 
