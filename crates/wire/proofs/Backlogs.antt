@@ -2,6 +2,7 @@
 use Rattle.std.proofs.Common.{⊎_elim, Bool, false, ◌≡◌, ◌≤◌, ◌<◌, ◌+◌, ◌-◌, ℕ, List, [], ◌∷◌, ◌++◌, length, take, drop, min, Option, None, Some, arith, refl, sym, ap, ◌∙◌, append_assoc, subst, length-append, length-drop}
 use Rattle.std.specs.Io.KnownBytes.{Consumes, Keeps, prepend_known}
 use Rattle.std.specs.Prelude.{IsTrue}
+use Rattle.std.proofs.KnownBytes.{Keeps-trans}
 use Rattle.std.proofs.lemmas.Bool.{cases_lt}
 use Rattle.std.proofs.lemmas.List.{length-take-le, take_min, take_all, take-append-le, take-take, drop-take, drop-drop}
 use Rattle.std.proofs.lemmas.List.Edits.{take-paste}
@@ -86,6 +87,19 @@ pub prepend-kept : (r s : Option (List ℕ)) (before : List ℕ) → Keeps r s �
 prepend-kept None s before h = tt
 prepend-kept (Some x) None before h = absurd h
 prepend-kept (Some x) (Some y) before h = ap (λ (t : List ℕ). before ++ t) h
+
+-- what was left first is still left after a read that gave bytes, or none
+pub kept_grown : (first here there : Option (List ℕ)) (old bytes new : List ℕ) → Keeps first (prepend_known old here) → Consumes here there bytes → new ≡ old ++ bytes
+    → Keeps first (prepend_known new there)
+kept_grown first here there old bytes new kept consumed more =
+    subst (λ (w : List ℕ). Keeps first (prepend_known w there)) (sym more)
+    (Keeps-trans first (prepend_known old here) (prepend_known (old ++ bytes) there) kept (prepend-more here there old bytes consumed))
+
+pub kept_failed : (first here there : Option (List ℕ)) (old new : List ℕ) → Keeps first (prepend_known old here) → Keeps here there → new ≡ old
+    → Keeps first (prepend_known new there)
+kept_failed first here there old new kept same more =
+    subst (λ (w : List ℕ). Keeps first (prepend_known w there)) (sym more)
+    (Keeps-trans first (prepend_known old here) (prepend_known old there) kept (prepend-kept here there old same))
 
 -- ---- the bytes that were searched for a head's end
 
