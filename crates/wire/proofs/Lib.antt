@@ -14,3 +14,4 @@ pub mod Beginnings
 pub mod BrokenOff
 pub mod GivenFirst
 pub mod ReadAhead
+pub mod PiecesGiven
