@@ -14,7 +14,7 @@ use Rattle.wire.specs.declared.feed.Place.TheVariants as place
 pub at_least_none : (n : ℕ) → 0 ≤ n
 at_least_none n = omega arith
 
-positive : (n : ℕ) → (n ≡ 0 → ⊥) → 0 < n
+pub positive : (n : ℕ) → (n ≡ 0 → ⊥) → 0 < n
 positive n some = omega arith
 
 pub none_open : (p : Place) (waits : List ℕ) (reader : Option (List ℕ)) → ((n : ℕ) → p ≡ place.Body n → ⊥) → GivesPiece p (prepend_known waits reader) (Ok Done) p waits reader
@@ -27,7 +27,7 @@ pub complete : (p : Place) (n : ℕ) (waits : List ℕ) (reader : Option (List �
 complete p n waits reader at zero =
     subst (λ (x : Place). GivesPiece x (prepend_known waits reader) (Ok Done) place.Between waits reader) (sym at) (refl, zero, Keeps-refl _)
 
-nothing_taken : (a b : Option (List ℕ)) (bytes : List ℕ) → bytes ≡ [] → Consumes a b bytes → Keeps a b
+pub nothing_taken : (a b : Option (List ℕ)) (bytes : List ℕ) → bytes ≡ [] → Consumes a b bytes → Keeps a b
 nothing_taken None b bytes none h = tt
 nothing_taken (Some x) None bytes none h = absurd h
 nothing_taken (Some x) (Some y) bytes none h = sym (subst (λ (t : List ℕ). Consumes (Some x) (Some y) t) none h)

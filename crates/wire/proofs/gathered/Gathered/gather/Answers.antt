@@ -1,9 +1,18 @@
-use Rattle.std.proofs.Common.{refl, sym, ap, subst, ◌∙◌, drop}
-use Rattle.std.specs.Prelude.{IsSome}
+use Rattle.std.proofs.Common.{◌≡◌, ◌<◌, ℕ, List, [], length, take, drop, Bool, false, Option, Result, Ok, Err, refl, sym, ap, subst, ◌∙◌}
+use Rattle.std.specs.Bool.{◌==◌}
+use Rattle.std.specs.Prelude.{IsErr, IsSome}
+use Rattle.std.specs.Io.KnownBytes.{Keeps}
 use Rattle.std.proofs.KnownBytes.{Keeps-refl}
-use Rattle.wire.specs.Gathering.{ahead_in}
+use Rattle.std.proofs.lemmas.Bool.{false≢true}
+use Rattle.wire.specs.Gathering.{Gathers, KeepsFault, ahead_in}
+use Rattle.wire.specs.declared.gathered.Gathered.{Gathered}
+use Rattle.wire.specs.declared.gathered.Gathering.{Gathering}
+use Rattle.wire.proofs.PiecesGiven.{nothing_taken, positive}
 use Rattle.wire.proofs.ReadAhead.{no_more}
 use Rattle.wire.proofs.gathered.Gathered.gather.Goals as goal
+
+some_room : (xs : List ℕ) → false ≡ (length xs == 0) → 0 < length xs
+some_room xs test = positive (length xs) (λ e. false≢true (test ∙ ap (λ (n : ℕ). n == 0) e))
 
 pub returns-then-is_some : goal.returns-then-is_some
 returns-then-is_some g c = record {
@@ -13,45 +22,79 @@ returns-then-is_some g c = record {
   most = no_more _ _ _ refl;
 }
 
-pub returns-then-not-is_empty-clause-room : goal.returns-then-not-is_empty-clause-room
-returns-then-not-is_empty-clause-room g c = λ _. refl
+pub returns-in_err-reserve-clause-failed : goal.returns-in_err-reserve-clause-failed
+returns-in_err-reserve-clause-failed g c = λ failed. subst IsSome (sym c.move_to_front.ensures.fault) failed
 
-pub returns-then-not-is_empty-clause-failed : goal.returns-then-not-is_empty-clause-failed
-returns-then-not-is_empty-clause-failed g c = λ failed. subst IsSome (sym c.move_to_front.ensures.fault) failed
+pub returns-in_err-reserve-clause-most : goal.returns-in_err-reserve-clause-most
+returns-in_err-reserve-clause-most g c = no_more _ (ahead_in c.args.self.now) _ (ap (drop c.move_to_front.new.self.start) c.reserve.ensures.items ∙ c.move_to_front.ensures.ahead)
 
-pub returns-then-not-is_empty-clause-most : goal.returns-then-not-is_empty-clause-most
-returns-then-not-is_empty-clause-most g c = no_more _ (ahead_in c.args.self.now) _ (ap (drop c.move_to_front.new.self.start) c.reserve.ensures.items ∙ c.move_to_front.ensures.ahead)
+pub returns-then-is_empty : goal.returns-then-is_empty
+returns-then-is_empty g c =
+    let remaining = g.S.Read.remaining in
+    let front = c.move_to_front.new.self in
+    let read = c.read.new.self in
+    let ahead : drop front.start c.reserve.new.self.items ≡ ahead_in c.args.self.now = ap (drop front.start) c.reserve.ensures.items ∙ c.move_to_front.ensures.ahead in
+    let zero = c.in-Ok-eq0.field-0-test in
+    let none = nothing_taken (remaining front.inner) (remaining read) _ (ap (λ (n : ℕ). take n c.read.new.buf) zero) c.in-Ok-eq0.ensures.bytes.0 in
+    let kept = subst (λ (s : g.row.S.Denot). Keeps (remaining s) (remaining read)) c.move_to_front.ensures.inner none in
+    record {
+      gathers = (ahead, kept, c.move_to_front.ensures.fault);
+      room = λ _. refl;
+      failed = λ failed. subst IsSome (sym c.move_to_front.ensures.fault) failed;
+      most = no_more _ (ahead_in c.args.self.now) _ ahead;
+    }
 
-pub returns-else-not-is_empty-clause-room : goal.returns-else-not-is_empty-clause-room
-returns-else-not-is_empty-clause-room g c = λ _. refl
+pub returns-else-is_empty : goal.returns-else-is_empty
+returns-else-is_empty g c =
+    let remaining = g.S.Read.remaining in
+    let front = c.move_to_front.new.self in
+    let read = c.read.new.self in
+    let ahead : drop front.start c.reserve.new.self.items ≡ ahead_in c.args.self.now = ap (drop front.start) c.reserve.ensures.items ∙ c.move_to_front.ensures.ahead in
+    let zero = c.in-Ok-eq0.field-0-test in
+    let none = nothing_taken (remaining front.inner) (remaining read) _ (ap (λ (n : ℕ). take n c.read.new.buf) zero) c.in-Ok-eq0.ensures.bytes.0 in
+    let kept = subst (λ (s : g.row.S.Denot). Keeps (remaining s) (remaining read)) c.move_to_front.ensures.inner none in
+    record {
+      gathers = (ahead, kept, c.in-Ok-eq0.ensures.bytes.1 zero (some_room c.read.new.buf c.if-is_empty.ensures), c.move_to_front.ensures.fault);
+      room = λ _. refl;
+      failed = λ failed. subst IsSome (sym c.move_to_front.ensures.fault) failed;
+      most = no_more _ (ahead_in c.args.self.now) _ ahead;
+    }
 
-pub returns-else-not-is_empty-clause-failed : goal.returns-else-not-is_empty-clause-failed
-returns-else-not-is_empty-clause-failed g c = λ failed. subst IsSome (sym c.move_to_front.ensures.fault) failed
+pub returns-then-eq : goal.returns-then-eq
+returns-then-eq g c =
+    let remaining = g.S.Read.remaining in
+    let front = c.move_to_front.new.self in
+    let read = c.read.new.self in
+    let ahead : drop front.start c.reserve.new.self.items ≡ ahead_in c.args.self.now = ap (drop front.start) c.reserve.ensures.items ∙ c.move_to_front.ensures.ahead in
+    let kept = subst (λ (s : g.row.S.Denot). Keeps (remaining s) (remaining read)) c.move_to_front.ensures.inner c.in-Err.ensures.bytes in
+    record {
+      gathers = (ahead, kept, c.move_to_front.ensures.fault);
+      room = λ _. refl;
+      failed = λ failed. subst IsSome (sym c.move_to_front.ensures.fault) failed;
+      most = no_more _ (ahead_in c.args.self.now) _ ahead;
+    }
 
-pub returns-else-not-is_empty-clause-most : goal.returns-else-not-is_empty-clause-most
-returns-else-not-is_empty-clause-most g c = no_more _ (ahead_in c.args.self.now) _ (ap (drop c.move_to_front.new.self.start) c.reserve.ensures.items ∙ c.move_to_front.ensures.ahead)
-
-pub returns-then-eq-clause-room : goal.returns-then-eq-clause-room
-returns-then-eq-clause-room g c = λ _. refl
-
-pub returns-then-eq-clause-failed : goal.returns-then-eq-clause-failed
-returns-then-eq-clause-failed g c = λ failed. subst IsSome (sym c.move_to_front.ensures.fault) failed
-
-pub returns-then-eq-clause-most : goal.returns-then-eq-clause-most
-returns-then-eq-clause-most g c = no_more _ (ahead_in c.args.self.now) _ (ap (drop c.move_to_front.new.self.start) c.reserve.ensures.items ∙ c.move_to_front.ensures.ahead)
+pub returns-else-eq : goal.returns-else-eq
+returns-else-eq g c =
+    let remaining = g.S.Read.remaining in
+    let front = c.move_to_front.new.self in
+    let read = c.read.new.self in
+    let ahead : drop front.start c.reserve.new.self.items ≡ ahead_in c.args.self.now = ap (drop front.start) c.reserve.ensures.items ∙ c.move_to_front.ensures.ahead in
+    let kept = subst (λ (s : g.row.S.Denot). Keeps (remaining s) (remaining read)) c.move_to_front.ensures.inner c.in-Err.ensures.bytes in
+    record {
+      gathers = (
+        c.fail.ensures.ahead ∙ ahead,
+        subst (λ (s : g.row.S.Denot). Keeps (remaining c.args.self.now.inner) (remaining s)) (sym c.fail.ensures.inner) kept,
+        c.fail.ensures.failed,
+        λ failed. absurd (false≢true (c.if-is_some.ensures ∙ failed)),
+      );
+      room = λ _. refl;
+      failed = λ _. c.fail.ensures.failed;
+      most = no_more _ (ahead_in c.args.self.now) _ (c.fail.ensures.ahead ∙ ahead);
+    }
 
 pub returns-in_ok-extend_from_slice-in-Ok-clause-room : goal.returns-in_ok-extend_from_slice-in-Ok-clause-room
 returns-in_ok-extend_from_slice-in-Ok-clause-room g c = λ _. refl
 
 pub returns-in_ok-extend_from_slice-in-Ok-clause-failed : goal.returns-in_ok-extend_from_slice-in-Ok-clause-failed
 returns-in_ok-extend_from_slice-in-Ok-clause-failed g c = λ failed. subst IsSome (sym c.move_to_front.ensures.fault) failed
-
-pub returns-else-eq-clause-room : goal.returns-else-eq-clause-room
-returns-else-eq-clause-room g c = λ _. refl
-
-pub returns-else-eq-clause-failed : goal.returns-else-eq-clause-failed
-returns-else-eq-clause-failed g c = λ _. c.fail.ensures.failed
-
-pub returns-else-eq-clause-most : goal.returns-else-eq-clause-most
-returns-else-eq-clause-most g c =
-    no_more _ (ahead_in c.args.self.now) _ (c.fail.ensures.ahead ∙ ap (drop c.move_to_front.new.self.start) c.reserve.ensures.items ∙ c.move_to_front.ensures.ahead)
