@@ -1,4 +1,4 @@
-use Rattle.std.proofs.Common.{◌≡◌, ◌<◌, ◌++◌, ℕ, List, length, take, arith, ap, sym, subst, ◌∙◌, lit≤, refl}
+use Rattle.std.proofs.Common.{◌≡◌, ◌<◌, ◌≤◌, ◌++◌, ℕ, List, length, take, arith, ap, sym, subst, ◌∙◌, lit≤, refl}
 use Rattle.std.specs.Io.KnownBytes.{prepend_known}
 use Rattle.sigtext.specs.Counts.{Rose}
 use Rattle.wire.specs.Heads.{IsHeadEnd, HasNoHeadEnd}
@@ -6,7 +6,7 @@ use Rattle.std.proofs.KnownBytes.{Keeps-refl}
 use Rattle.std.proofs.lemmas.List.{append-nil, nil_from_length}
 use Rattle.wire.specs.Waiting.{waiting}
 use Rattle.wire.proofs.Heads.{no_end_in_nothing}
-use Rattle.wire.proofs.Backlogs.{is_short, still_none, in_window, still_searched, kept_grown, kept_failed}
+use Rattle.wire.proofs.Backlogs.{still_none, in_window, still_searched, kept_grown, kept_failed}
 use Rattle.wire.proofs.backlog.Backlog.read_head.Goals as goal
 
 pub reads-init : goal.reads-init
@@ -22,7 +22,7 @@ reads-preserved g c =
     let first = prepend_known (waiting c.args.self.now) (remaining c.args.reader.now.inner) in
     let here = remaining c.reads.reader.inner in
     let there = remaining c.read_more.new.reader.inner in
-    let short : length old < 8192 = is_short c.is_long.result (length old) c.is_long.ensures.1 c.if-is_long.false in
+    let short : length old < 8192 = subst (λ (n : ℕ). n < 8192) (ap length c.waiting-searched.ensures) c.if-searched-ge-MOST_HEAD.false in
     let (bytes, more, consumed, some, none) = c.in-Ok-true.ensures.came in
     let size = c.waiting-searched.result.now in
     let searched : length size ≡ length old = ap length c.waiting-searched.ensures in
@@ -44,14 +44,14 @@ returns-in-Some g c = record {
   room = c.reads.invariant.room;
 }
 
-pub returns-then-is_long-clause-kept : goal.returns-then-is_long-clause-kept
-returns-then-is_long-clause-kept g c = c.reads.invariant.kept
-
-pub returns-then-is_long-clause-count : goal.returns-then-is_long-clause-count
-returns-then-is_long-clause-count g c = record { err = tt; ok = c.reads.invariant.count }
-
-pub returns-then-is_long-clause-room : goal.returns-then-is_long-clause-room
-returns-then-is_long-clause-room g c = c.reads.invariant.room
+pub returns-then-searched-ge-MOST_HEAD : goal.returns-then-searched-ge-MOST_HEAD
+returns-then-searched-ge-MOST_HEAD g c = record {
+  shows = (refl, subst (λ (n : ℕ). 8192 ≤ n) (ap length c.waiting-searched.ensures) c.if-searched-ge-MOST_HEAD.true, subst HasNoHeadEnd c.window.ensures c.in_default.ensures.none);
+  kept = c.reads.invariant.kept;
+  fault = tt;
+  count = record { err = tt; ok = c.reads.invariant.count };
+  room = c.reads.invariant.room;
+}
 
 pub returns-then-searched-eq0 : goal.returns-then-searched-eq0
 returns-then-searched-eq0 g c =
@@ -78,7 +78,7 @@ returns-else-searched-eq0 g c =
     let first = prepend_known (waiting c.args.self.now) (remaining c.args.reader.now.inner) in
     let here = remaining c.reads.reader.inner in
     let there = remaining c.read_more.new.reader.inner in
-    let short : length old < 8192 = is_short c.is_long.result (length old) c.is_long.ensures.1 c.if-is_long.false in
+    let short : length old < 8192 = subst (λ (n : ℕ). n < 8192) (ap length c.waiting-searched.ensures) c.if-searched-ge-MOST_HEAD.false in
     let (bytes, more, consumed, some, none) = c.in-Ok-false.ensures.came in
     let end = none c.in-Ok-false.field-0-test in
     let same = more ∙ ap (λ t. old ++ t) end.0 ∙ append-nil old in
@@ -98,7 +98,7 @@ returns-in-Err g c =
     let first = prepend_known (waiting c.args.self.now) (remaining c.args.reader.now.inner) in
     let here = remaining c.reads.reader.inner in
     let there = remaining c.read_more.new.reader.inner in
-    let short : length old < 8192 = is_short c.is_long.result (length old) c.is_long.ensures.1 c.if-is_long.false in
+    let short : length old < 8192 = subst (λ (n : ℕ). n < 8192) (ap length c.waiting-searched.ensures) c.if-searched-ge-MOST_HEAD.false in
     let (is_read, same, kept) = c.in-Err.ensures.fault in
     record {
       shows = still_none c.window.result.now old _ c.window.ensures short same c.in_default.ensures.none;

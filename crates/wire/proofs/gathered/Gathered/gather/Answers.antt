@@ -1,12 +1,10 @@
-use Rattle.std.proofs.Common.{◌≡◌, ◌<◌, ℕ, List, [], length, take, drop, Bool, false, Option, Result, Ok, Err, refl, sym, ap, subst, ◌∙◌}
+use Rattle.std.proofs.Common.{◌≡◌, ◌<◌, ℕ, List, length, take, drop, false, refl, sym, ap, subst, ◌∙◌}
 use Rattle.std.specs.Bool.{◌==◌}
-use Rattle.std.specs.Prelude.{IsErr, IsSome}
+use Rattle.std.specs.Prelude.{IsSome}
 use Rattle.std.specs.Io.KnownBytes.{Keeps}
 use Rattle.std.proofs.KnownBytes.{Keeps-refl}
 use Rattle.std.proofs.lemmas.Bool.{false≢true}
-use Rattle.wire.specs.Gathering.{Gathers, KeepsFault, ahead_in}
-use Rattle.wire.specs.declared.gathered.Gathered.{Gathered}
-use Rattle.wire.specs.declared.gathered.Gathering.{Gathering}
+use Rattle.wire.specs.Gathering.{ahead_in}
 use Rattle.wire.proofs.PiecesGiven.{nothing_taken, positive}
 use Rattle.wire.proofs.ReadAhead.{no_more}
 use Rattle.wire.proofs.gathered.Gathered.gather.Goals as goal
