@@ -39,16 +39,20 @@ same_out : (a b : Option (List ℕ)) (old new : List ℕ) → b ≡ a → new �
 same_out a b old new e w =
     subst (λ (t : Option (List ℕ)). Keeps (append_known a old) t) (sym (ap (λ (t : Option (List ℕ)). append_known t new) e ∙ ap (append_known a) w)) (Keeps-refl (append_known a old))
 
-pub returns-then-is_some : goal.returns-then-is_some
-returns-then-is_some g c =
-    let some = sym c.if-is_some.ensures in
-    record {
-      sent = (λ e. absurd (failed_sent e), λ h. absurd (false≢true (sym h.1 ∙ some)));
-      failed = (λ _. some, λ _. refl);
-      takes = ([], refl, Appends-nil _);
-      contents = Keeps-refl _;
-      kept = λ failed. failed;
-    }
+pub returns-then-is_some-clause-sent : goal.returns-then-is_some-clause-sent
+returns-then-is_some-clause-sent g c = (λ e. absurd (failed_sent e), λ h. absurd (false≢true (sym h.1 ∙ sym c.if-is_some.ensures)))
+
+pub returns-then-is_some-clause-failed : goal.returns-then-is_some-clause-failed
+returns-then-is_some-clause-failed g c = (λ _. sym c.if-is_some.ensures, λ _. refl)
+
+pub returns-then-is_some-clause-takes : goal.returns-then-is_some-clause-takes
+returns-then-is_some-clause-takes g c = ([], refl, Appends-nil _)
+
+pub returns-then-is_some-clause-contents : goal.returns-then-is_some-clause-contents
+returns-then-is_some-clause-contents g c = Keeps-refl _
+
+pub returns-then-is_some-clause-kept : goal.returns-then-is_some-clause-kept
+returns-then-is_some-clause-kept g c = λ failed. failed
 
 pub returns-then-is_empty : goal.returns-then-is_empty
 returns-then-is_empty g c =
