@@ -1,15 +1,13 @@
 -- Ranges of a buffer: taking from their front, moving them to the buffer's front, and appending to them.
-use Rattle.std.proofs.Common.{⊎_elim, Bool, false, ◌≡◌, ◌≤◌, ◌<◌, ◌+◌, ◌-◌, ℕ, List, [], ◌∷◌, ◌++◌, length, take, drop, min, Option, None, Some, arith, refl, sym, ap, ◌∙◌, append_assoc, subst, length-append, length-drop}
+use Rattle.std.proofs.Common.{◌≡◌, ◌≤◌, ◌<◌, ◌+◌, ◌-◌, ℕ, List, [], ◌∷◌, ◌++◌, length, take, drop, min, Option, None, Some, arith, refl, sym, ap, ◌∙◌, append_assoc, subst, length-append, length-drop}
 use Rattle.std.specs.Io.KnownBytes.{Consumes, Keeps, prepend_known}
-use Rattle.std.specs.Prelude.{IsTrue}
-use Rattle.std.proofs.lemmas.Bool.{cases_lt}
+use Rattle.std.proofs.KnownBytes.{Keeps-trans}
 use Rattle.std.proofs.lemmas.List.{length-take-le, take_min, take_all, take-append-le, take-take, drop-take, drop-drop}
 use Rattle.std.proofs.lemmas.List.Edits.{take-paste}
 use Rattle.std.proofs.Math.Seq.{paste, take-append_seam}
 use Rattle.wire.specs.Heads.{HasNoHeadEnd}
 use Rattle.wire.specs.Waiting.{waiting}
 use Rattle.wire.specs.declared.backlog.Backlog.{Backlog}
-use Rattle.wire.proofs.Announced.{different}
 
 pub range_length : (xs : List ℕ) (s e : ℕ) → s ≤ e → e ≤ length xs → length (take (e - s) (drop s xs)) ≡ e - s
 range_length xs s e o w = length-take-le (e - s) (drop s xs) (omega (arith, length-drop s xs))
@@ -63,10 +61,6 @@ range_kept xs ys s e front h =
 pub take_least : (n : ℕ) (xs : List ℕ) → take (min (length xs) n) xs ≡ take n xs
 take_least n xs = let swapped : min (length xs) n ≡ min n (length xs) = omega arith in ap (λ (k : ℕ). take k xs) swapped ∙ take_min n xs
 
--- a failed test of the length means fewer than 8192 bytes
-pub is_short : (b : Bool) (n : ℕ) → (8192 ≤ n → IsTrue b) → b ≡ false → n < 8192
-is_short b n long e = ⊎_elim (λ less. less) (λ more. absurd (different b (long more) e)) (cases_lt n 8192)
-
 -- the window without a head's end was all that waited
 pub still_none : (window old new : List ℕ) → window ≡ take 8192 old → length old < 8192 → new ≡ old → HasNoHeadEnd window → (length new < 8192) × HasNoHeadEnd new
 still_none window old new seen short same none =
@@ -86,6 +80,19 @@ pub prepend-kept : (r s : Option (List ℕ)) (before : List ℕ) → Keeps r s �
 prepend-kept None s before h = tt
 prepend-kept (Some x) None before h = absurd h
 prepend-kept (Some x) (Some y) before h = ap (λ (t : List ℕ). before ++ t) h
+
+-- what was left first is still left after a read that gave bytes, or none
+pub kept_grown : (first here there : Option (List ℕ)) (old bytes new : List ℕ) → Keeps first (prepend_known old here) → Consumes here there bytes → new ≡ old ++ bytes
+    → Keeps first (prepend_known new there)
+kept_grown first here there old bytes new kept consumed more =
+    subst (λ (w : List ℕ). Keeps first (prepend_known w there)) (sym more)
+    (Keeps-trans first (prepend_known old here) (prepend_known (old ++ bytes) there) kept (prepend-more here there old bytes consumed))
+
+pub kept_failed : (first here there : Option (List ℕ)) (old new : List ℕ) → Keeps first (prepend_known old here) → Keeps here there → new ≡ old
+    → Keeps first (prepend_known new there)
+kept_failed first here there old new kept same more =
+    subst (λ (w : List ℕ). Keeps first (prepend_known w there)) (sym more)
+    (Keeps-trans first (prepend_known old here) (prepend_known old there) kept (prepend-kept here there old same))
 
 -- ---- the bytes that were searched for a head's end
 

@@ -13,3 +13,5 @@ pub mod Halves
 pub mod Beginnings
 pub mod BrokenOff
 pub mod GivenFirst
+pub mod ReadAhead
+pub mod PiecesGiven

@@ -88,13 +88,6 @@ impl Backlog {
         &waiting[..waiting.len().min(MOST_HEAD)]
     }
 
-    // Whether at least 8192 bytes wait, so that a head would have ended in them.
-    fn is_long(&self) -> bool
-        ensures { IsTrue result ↔ (most_head ≤ length (waiting self.now)) }
-    {
-        self.waiting().len() >= MOST_HEAD
-    }
-
     /// Takes the first n waiting bytes.
     pub fn take(&mut self, n: usize)
         requires { n ≤ length (waiting self.old) }
@@ -191,7 +184,7 @@ impl Backlog {
                 return Ok(Step::Head(size));
             }
             searched = self.waiting().len();
-            if self.is_long() {
+            if searched >= MOST_HEAD {
                 return Ok(Step::Refused(Refusal::HeadTooLong));
             }
             match self.read_more(reader) {

@@ -2,7 +2,7 @@
 use thiserror::Error;
 
 /// What failed on a wire.
-#[derive(Clone, Copy, Debug, PartialEq, Eq, Error)]
+#[derive(Clone, Copy, Debug, Error)]
 pub enum WireFault {
     /// A read failed.
     #[error("a read failed")]

@@ -25,7 +25,7 @@ use std::io::Read;
 use std::mem;
 
 /// The head of a message.
-#[derive(Clone, Copy, Debug, PartialEq, Eq)]
+#[derive(Clone, Copy)]
 pub struct Opening<'a> {
     /// The whole head, through CR LF CR LF. At most 8192 bytes.
     pub text: &'a [u8],
@@ -38,7 +38,7 @@ pub struct Opening<'a> {
 }
 
 /// What comes where a message may begin.
-#[derive(Clone, Copy, Debug)]
+#[derive(Drop)]
 pub enum Step<T> {
     /// A head. Its body follows in pieces.
     Head(T),
@@ -51,7 +51,7 @@ pub enum Step<T> {
 }
 
 /// A piece of a body.
-#[derive(Clone, Copy, Debug)]
+#[derive(Drop)]
 pub enum Piece<T> {
     /// The next 1 to 65536 bytes.
     Bytes(T),
@@ -62,7 +62,7 @@ pub enum Piece<T> {
 }
 
 /// Where a feed stands.
-#[derive(Clone, Copy, Debug, PartialEq, Eq)]
+#[derive(Clone, Copy)]
 pub enum Place {
     /// Before the first `next`. There is no buffer yet.
     Fresh,

@@ -79,14 +79,19 @@ impl<S: Read> Gathered<S> {
         self.move_to_front();
         self.bytes.reserve(buf.len())?;
         match self.inner.read(buf) {
-            Ok(0) if !buf.is_empty() => Ok(Gathering::Ended),
-            Ok(0) => Ok(Gathering::Waits),
+            Ok(0) => Ok(if buf.is_empty() {
+                Gathering::Waits
+            } else {
+                Gathering::Ended
+            }),
             Ok(n) => {
                 self.bytes.extend_from_slice(&buf[..n])?;
                 Ok(Gathering::Came)
             }
-            Err(error) if error.kind() == ErrorKind::WouldBlock => Ok(Gathering::Waits),
             Err(error) => {
+                if error.kind() == ErrorKind::WouldBlock {
+                    return Ok(Gathering::Waits);
+                }
                 self.fail(error);
                 Ok(Gathering::Failed)
             }

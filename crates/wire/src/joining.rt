@@ -12,7 +12,7 @@ use sigtext::{Field, Refusal};
 use std::io::Read;
 
 /// What came where a message may begin.
-#[derive(Clone, Copy, Debug, PartialEq, Eq)]
+#[derive(Clone, Copy)]
 pub enum Came<'a> {
     /// A head. Its body follows.
     Head(Opening<'a>),
@@ -25,7 +25,7 @@ pub enum Came<'a> {
 }
 
 /// How a body ended.
-#[derive(Clone, Copy, Debug, PartialEq, Eq)]
+#[derive(Clone, Copy)]
 pub enum Ending {
     /// The whole body came.
     Whole,

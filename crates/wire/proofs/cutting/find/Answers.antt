@@ -4,6 +4,7 @@ use Rattle.sigtext.specs.declared.refusal.Refusal.TheVariants as rule
 use Rattle.wire.specs.Framing.{IsFront, Next, Refused, Ended, Truncated}
 use Rattle.wire.specs.Framing as next
 use Rattle.wire.specs.Judging.{HeadAnnounces}
+use Rattle.wire.specs.Openings.{ArePartsOf}
 use Rattle.wire.specs.Waiting.{Shows, waiting}
 use Rattle.wire.specs.declared.feed.Step.{Step}
 use Rattle.wire.proofs.WaitingFronts.{of_whole, of_end, awaits_head, text_alone, text_copied, opened, barred, next_too_long, next_truncated, breaks_early}
@@ -27,49 +28,81 @@ copy_from_slice-requires g c =
     let long = ap length (c.taken.ensures ∙ c.take.ensures.taken) ∙ length-take-le c.in-Ok-Head.size (waiting c.read_head.new.self) (omega (arith, within, most)) in
     length-take-le c.in-Ok-Head.size c.args.text.now (omega (arith, within, most, c.told-text)) ∙ sym long
 
-pub returns-in-Ok-clause-finds : goal.returns-in-Ok-clause-finds
-returns-in-Ok-clause-finds g c =
+pub returns-in-Ok : goal.returns-in-Ok
+returns-in-Ok g c =
     let waits = waiting c.read_head.new.self in
     let shows = shown _ _ c.in-Ok-Head.field-0-is c.in-Ok-Head.ensures.shows in
     let text : c.in-Ok.opening.text.now ≡ take c.in-Ok-Head.size waits =
     c.in-Ok.ensures.text ∙ text_copied waits _ _ _ c.in-Ok-Head.size shows c.copy_from_slice.ensures.after (c.taken.ensures ∙ c.take.ensures.taken) in
-    let (small, head, tells) = c.in-Ok.ensures.ok in (
-      record {
-        is_front = text_alone waits _ c.in-Ok-Head.size shows text;
-        small = small;
-        head = head;
-        tells = subst (λ (t : List ℕ). HeadAnnounces t head c.in-Ok.opening.has_length c.in-Ok.opening.length) (sym c.in-Ok.ensures.text) tells;
-      },
-      opened _ _ waits _ _ c.in-Ok-Head.size shows text c.take.ensures.rest c.in-Ok-Head.ensures.kept,
-    )
+    let (small, head, tells) = c.in-Ok.ensures.ok in
+    record {
+      finds = (
+        record {
+          is_front = text_alone waits _ c.in-Ok-Head.size shows text;
+          small = small;
+          head = head;
+          tells = subst (λ (t : List ℕ). HeadAnnounces t head c.in-Ok.opening.has_length c.in-Ok.opening.length) (sym c.in-Ok.ensures.text) tells;
+        },
+        opened _ _ waits _ _ c.in-Ok-Head.size shows text c.take.ensures.rest c.in-Ok-Head.ensures.kept,
+      );
+      parts = subst (λ (t : List ℕ). ArePartsOf t c.in-Ok.opening.head c.read_announcement.new.fields) (sym c.in-Ok.ensures.text) c.in-Ok.ensures.parts;
+      room = c.take.ensures.room ∙ c.read_head.ensures.room;
+      count = record { err = tt; ok = c.in-Ok-Head.ensures.count.ok };
+    }
 
-pub returns-in-Err-read_announcement-clause-finds : goal.returns-in-Err-read_announcement-clause-finds
-returns-in-Err-read_announcement-clause-finds g c =
+pub returns-in-Err-read_announcement : goal.returns-in-Err-read_announcement
+returns-in-Err-read_announcement g c =
     let waits = waiting c.read_head.new.self in
     let shows = shown _ _ c.in-Ok-Head.field-0-is c.in-Ok-Head.ensures.shows in
     let text = text_copied waits _ _ _ c.in-Ok-Head.size shows c.copy_from_slice.ensures.after (c.taken.ensures ∙ c.take.ensures.taken) in
-    let breaks = c.in-Err-read_announcement.ensures.err in (
-      (breaks_early _ c.in-Err-read_announcement.refusal breaks).0,
-      (breaks_early _ c.in-Err-read_announcement.refusal breaks).1,
-      barred _ _ waits _ _ c.in-Ok-Head.size c.in-Err-read_announcement.refusal shows text c.take.ensures.rest c.in-Ok-Head.ensures.kept breaks,
-    )
+    let breaks = c.in-Err-read_announcement.ensures.err in
+    record {
+      finds = (
+        (breaks_early _ c.in-Err-read_announcement.refusal breaks).0,
+        (breaks_early _ c.in-Err-read_announcement.refusal breaks).1,
+        barred _ _ waits _ _ c.in-Ok-Head.size c.in-Err-read_announcement.refusal shows text c.take.ensures.rest c.in-Ok-Head.ensures.kept breaks,
+      );
+      parts = tt;
+      room = c.take.ensures.room ∙ c.read_head.ensures.room;
+      count = record { err = tt; ok = c.in-Ok-Head.ensures.count.ok };
+    }
 
-pub returns-in-Ok-Refused-clause-finds : goal.returns-in-Ok-Refused-clause-finds
-returns-in-Ok-Refused-clause-finds g c =
+pub returns-in-Ok-Refused : goal.returns-in-Ok-Refused
+returns-in-Ok-Refused g c =
     let shows = shown _ _ c.in-Ok-Refused.field-0-is c.in-Ok-Refused.ensures.shows in
-    rw shows.0
-    (lit< tt, lit≤ tt, of_whole _ _ (waiting c.read_head.new.self) (λ s. Next s (Refused rule.HeadTooLong) []) c.in-Ok-Refused.ensures.kept (λ rest. next_too_long _ rest shows.1 shows.2))
+    record {
+      finds = rw shows.0
+          (lit< tt, lit≤ tt, of_whole _ _ (waiting c.read_head.new.self) (λ s. Next s (Refused rule.HeadTooLong) []) c.in-Ok-Refused.ensures.kept (λ rest. next_too_long _ rest shows.1 shows.2));
+      parts = tt;
+      room = c.read_head.ensures.room;
+      count = record { err = tt; ok = c.in-Ok-Refused.ensures.count.ok };
+    }
 
-pub returns-in-Ok-End-clause-finds : goal.returns-in-Ok-End-clause-finds
-returns-in-Ok-End-clause-finds g c =
+pub returns-in-Ok-End : goal.returns-in-Ok-End
+returns-in-Ok-End g c =
     let shows = shown _ _ c.in-Ok-End.field-0-is c.in-Ok-End.ensures.shows in
-    (shows.0, shows.1, of_end _ _ (waiting c.read_head.new.self) (λ s. Next s Ended []) c.in-Ok-End.ensures.kept shows.1 (next.ended shows.0))
+    record {
+      finds = (shows.0, shows.1, of_end _ _ (waiting c.read_head.new.self) (λ s. Next s Ended []) c.in-Ok-End.ensures.kept shows.1 (next.ended shows.0));
+      parts = tt;
+      room = c.read_head.ensures.room;
+      count = record { err = tt; ok = c.in-Ok-End.ensures.count.ok };
+    }
 
-pub returns-in-Ok-Truncated-clause-finds : goal.returns-in-Ok-Truncated-clause-finds
-returns-in-Ok-Truncated-clause-finds g c =
+pub returns-in-Ok-Truncated : goal.returns-in-Ok-Truncated
+returns-in-Ok-Truncated g c =
     let shows = shown _ _ c.in-Ok-Truncated.field-0-is c.in-Ok-Truncated.ensures.shows in
-    (shows.3, of_end _ _ (waiting c.read_head.new.self) (λ s. Next s Truncated []) c.in-Ok-Truncated.ensures.kept shows.3 (next_truncated _ shows.0 shows.1 shows.2))
+    record {
+      finds = (shows.3, of_end _ _ (waiting c.read_head.new.self) (λ s. Next s Truncated []) c.in-Ok-Truncated.ensures.kept shows.3 (next_truncated _ shows.0 shows.1 shows.2));
+      parts = tt;
+      room = c.read_head.ensures.room;
+      count = record { err = tt; ok = c.in-Ok-Truncated.ensures.count.ok };
+    }
 
-pub returns-in-Err-clause-finds : goal.returns-in-Err-clause-finds
-returns-in-Err-clause-finds g c =
-    rw c.in-Err.ensures.fault (awaits_head _ c.in-Err.ensures.shows.0 c.in-Err.ensures.shows.1, c.in-Err.ensures.kept)
+pub returns-in-Err : goal.returns-in-Err
+returns-in-Err g c =
+    record {
+      finds = rw c.in-Err.ensures.fault (awaits_head _ c.in-Err.ensures.shows.0 c.in-Err.ensures.shows.1, c.in-Err.ensures.kept);
+      parts = tt;
+      room = c.read_head.ensures.room;
+      count = record { err = c.in-Err.ensures.count.err; ok = tt };
+    }

@@ -1,4 +1,11 @@
-use Rattle.std.proofs.Common.{Ok, ap, ◌∙◌}
+use Rattle.std.proofs.Common.{◌≡◌, List, ℕ, Result, Ok, Err, refl, sym, ap, subst, ◌∙◌}
+use Rattle.std.specs.Borrow.{Bor}
+use Rattle.wire.specs.Feeding.{CountsReads}
+use Rattle.wire.specs.declared.fault.WireFault.{WireFault}
+use Rattle.wire.specs.declared.feed.Piece.{Piece}
+use Rattle.wire.specs.declared.joining.Ending.{Ending}
+use Rattle.wire.specs.declared.joining.Ending.TheVariants.{Whole, Lacking}
+use Rattle.wire.proofs.Beginnings.{counts_failed}
 use Rattle.wire.proofs.Skips.{lacks, skips_on, counts_none}
 use Rattle.wire.proofs.joining.skip_body.Goals as goal
 
@@ -18,3 +25,42 @@ pub returns-in-Ok-Refused-clause-lacking : goal.returns-in-Ok-Refused-clause-lac
 returns-in-Ok-Refused-clause-lacking g c = λ _.
     lacks g.R.Read.remaining c.args.size c.args.feed.now c.pieces.feed c.piece.follows.lender-at-none c.piece.result c.in-Ok-Refused.field-0-0 c.pieces.invariant.skipped
     (c.in-Ok-Refused.is ∙ ap Ok c.in-Ok-Refused.field-0-is) c.piece.follows.holds-at-none.1
+
+failed_ended : (f : WireFault) (ending : Ending) → Err f ≡ Ok ending → ⊥
+failed_ended f ending e = cc
+
+differ : (a b : Result Ending WireFault) → a ≡ Ok Whole → b ≡ Ok Lacking → a ≡ b → ⊥
+differ a b whole lacking e = cc
+
+pub returns-in-Err-clause-same : goal.returns-in-Err-clause-same
+returns-in-Err-clause-same g c = c.piece.follows.holds-at-none.0 ∙ c.pieces.invariant.same
+
+pub returns-in-Err-clause-whole : goal.returns-in-Err-clause-whole
+returns-in-Err-clause-whole g c = λ e. absurd (failed_ended c.in-Err.fault Whole e)
+
+pub returns-in-Err-clause-lacking : goal.returns-in-Err-clause-lacking
+returns-in-Err-clause-lacking g c = λ e. absurd (failed_ended c.in-Err.fault Lacking e)
+
+pub returns-in-Err-clause-count : goal.returns-in-Err-clause-count
+returns-in-Err-clause-count g c =
+    let new = c.piece.follows.lender-at-none.reader.now.faults in
+    subst (λ (old : ℕ). CountsReads {T = Ending} (Err c.in-Err.fault) old new) c.pieces.invariant.count
+    (counts_failed (Piece (Bor (List ℕ))) Ending c.piece.result c.in-Err.fault _ new c.in-Err.is c.piece.follows.holds-at-none.2)
+
+pub returns-in-Ok-Done-clause-same : goal.returns-in-Ok-Done-clause-same
+returns-in-Ok-Done-clause-same g c = c.piece.follows.holds-at-none.0 ∙ c.pieces.invariant.same
+
+pub returns-in-Ok-Done-clause-lacking : goal.returns-in-Ok-Done-clause-lacking
+returns-in-Ok-Done-clause-lacking g c = λ e. absurd (differ _ _ refl refl e)
+
+pub returns-in-Ok-Done-clause-count : goal.returns-in-Ok-Done-clause-count
+returns-in-Ok-Done-clause-count g c = counts_none c.piece.result _ c.pieces.feed.reader.now.faults _ c.in-Ok-Done.is c.piece.follows.holds-at-none.2 ∙ c.pieces.invariant.count
+
+pub returns-in-Ok-Refused-clause-same : goal.returns-in-Ok-Refused-clause-same
+returns-in-Ok-Refused-clause-same g c = c.piece.follows.holds-at-none.0 ∙ c.pieces.invariant.same
+
+pub returns-in-Ok-Refused-clause-whole : goal.returns-in-Ok-Refused-clause-whole
+returns-in-Ok-Refused-clause-whole g c = λ e. absurd (differ _ _ refl refl (sym e))
+
+pub returns-in-Ok-Refused-clause-count : goal.returns-in-Ok-Refused-clause-count
+returns-in-Ok-Refused-clause-count g c = counts_none c.piece.result _ c.pieces.feed.reader.now.faults _ c.in-Ok-Refused.is c.piece.follows.holds-at-none.2 ∙ c.pieces.invariant.count

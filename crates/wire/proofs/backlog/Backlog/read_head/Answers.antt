@@ -1,11 +1,12 @@
-use Rattle.std.proofs.Common.{◌≡◌, ◌<◌, ◌++◌, ℕ, List, length, take, arith, ap, sym, subst, ◌∙◌, lit≤, refl}
-use Rattle.std.specs.Io.KnownBytes.{Keeps, prepend_known}
-use Rattle.wire.specs.Heads.{HasNoHeadEnd}
-use Rattle.std.proofs.KnownBytes.{Keeps-refl, Keeps-trans}
-use Rattle.std.proofs.lemmas.List.{append-nil}
+use Rattle.std.proofs.Common.{◌≡◌, ◌<◌, ◌≤◌, ◌++◌, ℕ, List, length, take, arith, ap, sym, subst, ◌∙◌, lit≤, refl}
+use Rattle.std.specs.Io.KnownBytes.{prepend_known}
+use Rattle.sigtext.specs.Counts.{Rose}
+use Rattle.wire.specs.Heads.{IsHeadEnd, HasNoHeadEnd}
+use Rattle.std.proofs.KnownBytes.{Keeps-refl}
+use Rattle.std.proofs.lemmas.List.{append-nil, nil_from_length}
 use Rattle.wire.specs.Waiting.{waiting}
 use Rattle.wire.proofs.Heads.{no_end_in_nothing}
-use Rattle.wire.proofs.Backlogs.{is_short, still_none, in_window, still_searched, prepend-more}
+use Rattle.wire.proofs.Backlogs.{still_none, in_window, still_searched, kept_grown, kept_failed}
 use Rattle.wire.proofs.backlog.Backlog.read_head.Goals as goal
 
 pub reads-init : goal.reads-init
@@ -16,19 +17,17 @@ head_end_behind-requires g c = in_window c.window.result.now (waiting c.reads.se
 
 pub reads-preserved : goal.reads-preserved
 reads-preserved g c =
+    let remaining = g.R.Read.remaining in
     let old = waiting c.reads.self in
-    let short : length old < 8192 = is_short c.is_long.result (length old) c.is_long.ensures.1 c.if-is_long.false in
+    let first = prepend_known (waiting c.args.self.now) (remaining c.args.reader.now.inner) in
+    let here = remaining c.reads.reader.inner in
+    let there = remaining c.read_more.new.reader.inner in
+    let short : length old < 8192 = subst (λ (n : ℕ). n < 8192) (ap length c.waiting-searched.ensures) c.if-searched-ge-MOST_HEAD.false in
     let (bytes, more, consumed, some, none) = c.in-Ok-true.ensures.came in
     let size = c.waiting-searched.result.now in
     let searched : length size ≡ length old = ap length c.waiting-searched.ensures in
-    let remaining = g.R.Read.remaining in
-    let before = prepend_known (waiting c.args.self.now) (remaining c.args.reader.now.inner) in
-    let there = remaining c.read_more.new.reader.inner in
-    let grew = prepend-more (remaining c.reads.reader.inner) there old bytes consumed in
-    let kept = subst (λ (w : List ℕ). Keeps before (prepend_known w there)) (sym more)
-    (Keeps-trans before (prepend_known old (remaining c.reads.reader.inner)) (prepend_known (old ++ bytes) there) c.reads.invariant.kept grew) in
     record {
-      kept = kept;
+      kept = kept_grown first here there old bytes _ c.reads.invariant.kept consumed more;
       count = c.in-Ok-true.ensures.count.ok ∙ c.reads.invariant.count;
       room = c.read_more.ensures.room ∙ c.reads.invariant.room;
       small = omega (arith, short, searched);
@@ -36,18 +35,75 @@ reads-preserved g c =
           (still_searched c.window.result.now old _ bytes c.window.ensures short more c.in_default.ensures.none);
     }
 
-pub returns-else-searched-eq0-clause-shows : goal.returns-else-searched-eq0-clause-shows
-returns-else-searched-eq0-clause-shows g c =
+pub returns-in-Some : goal.returns-in-Some
+returns-in-Some g c = record {
+  shows = subst (λ (w : List ℕ). IsHeadEnd w c.in-Some.size) c.window.ensures c.in-Some.ensures.found;
+  kept = c.reads.invariant.kept;
+  fault = tt;
+  count = record { err = tt; ok = c.reads.invariant.count };
+  room = c.reads.invariant.room;
+}
+
+pub returns-then-searched-ge-MOST_HEAD : goal.returns-then-searched-ge-MOST_HEAD
+returns-then-searched-ge-MOST_HEAD g c = record {
+  shows = (refl, subst (λ (n : ℕ). 8192 ≤ n) (ap length c.waiting-searched.ensures) c.if-searched-ge-MOST_HEAD.true, subst HasNoHeadEnd c.window.ensures c.in_default.ensures.none);
+  kept = c.reads.invariant.kept;
+  fault = tt;
+  count = record { err = tt; ok = c.reads.invariant.count };
+  room = c.reads.invariant.room;
+}
+
+pub returns-then-searched-eq0 : goal.returns-then-searched-eq0
+returns-then-searched-eq0 g c =
+    let remaining = g.R.Read.remaining in
     let old = waiting c.reads.self in
-    let short : length old < 8192 = is_short c.is_long.result (length old) c.is_long.ensures.1 c.if-is_long.false in
+    let first = prepend_known (waiting c.args.self.now) (remaining c.args.reader.now.inner) in
+    let here = remaining c.reads.reader.inner in
+    let there = remaining c.read_more.new.reader.inner in
+    let (bytes, more, consumed, some, none) = c.in-Ok-false.ensures.came in
+    let end = none c.in-Ok-false.field-0-test in
+    let empty = nil_from_length old (sym (ap length c.waiting-searched.ensures) ∙ c.if-searched-eq0.true) in
+    record {
+      shows = (more ∙ ap (λ t. old ++ t) end.0 ∙ append-nil old ∙ empty, end.1);
+      kept = kept_grown first here there old bytes _ c.reads.invariant.kept consumed more;
+      fault = tt;
+      count = record { err = tt; ok = c.in-Ok-false.ensures.count.ok ∙ c.reads.invariant.count };
+      room = c.read_more.ensures.room ∙ c.reads.invariant.room;
+    }
+
+pub returns-else-searched-eq0 : goal.returns-else-searched-eq0
+returns-else-searched-eq0 g c =
+    let remaining = g.R.Read.remaining in
+    let old = waiting c.reads.self in
+    let first = prepend_known (waiting c.args.self.now) (remaining c.args.reader.now.inner) in
+    let here = remaining c.reads.reader.inner in
+    let there = remaining c.read_more.new.reader.inner in
+    let short : length old < 8192 = subst (λ (n : ℕ). n < 8192) (ap length c.waiting-searched.ensures) c.if-searched-ge-MOST_HEAD.false in
     let (bytes, more, consumed, some, none) = c.in-Ok-false.ensures.came in
     let end = none c.in-Ok-false.field-0-test in
     let same = more ∙ ap (λ t. old ++ t) end.0 ∙ append-nil old in
     let still = still_none c.window.result.now old _ c.window.ensures short same c.in_default.ensures.none in
-    (omega (arith, c.if-searched-eq0.false, ap length c.waiting-searched.ensures, ap length same), still.0, still.1, end.1)
+    record {
+      shows = (omega (arith, c.if-searched-eq0.false, ap length c.waiting-searched.ensures, ap length same), still.0, still.1, end.1);
+      kept = kept_grown first here there old bytes _ c.reads.invariant.kept consumed more;
+      fault = tt;
+      count = record { err = tt; ok = c.in-Ok-false.ensures.count.ok ∙ c.reads.invariant.count };
+      room = c.read_more.ensures.room ∙ c.reads.invariant.room;
+    }
 
-pub returns-in-Err-clause-shows : goal.returns-in-Err-clause-shows
-returns-in-Err-clause-shows g c =
+pub returns-in-Err : goal.returns-in-Err
+returns-in-Err g c =
+    let remaining = g.R.Read.remaining in
     let old = waiting c.reads.self in
-    let short : length old < 8192 = is_short c.is_long.result (length old) c.is_long.ensures.1 c.if-is_long.false in
-    still_none c.window.result.now old _ c.window.ensures short c.in-Err.ensures.fault.1 c.in_default.ensures.none
+    let first = prepend_known (waiting c.args.self.now) (remaining c.args.reader.now.inner) in
+    let here = remaining c.reads.reader.inner in
+    let there = remaining c.read_more.new.reader.inner in
+    let short : length old < 8192 = subst (λ (n : ℕ). n < 8192) (ap length c.waiting-searched.ensures) c.if-searched-ge-MOST_HEAD.false in
+    let (is_read, same, kept) = c.in-Err.ensures.fault in
+    record {
+      shows = still_none c.window.result.now old _ c.window.ensures short same c.in_default.ensures.none;
+      kept = kept_failed first here there old _ c.reads.invariant.kept kept same;
+      fault = is_read;
+      count = record { err = subst (λ (n : ℕ). Rose n c.read_more.new.reader.faults) c.reads.invariant.count c.in-Err.ensures.count.err; ok = tt };
+      room = c.read_more.ensures.room ∙ c.reads.invariant.room;
+    }

@@ -1,6 +1,12 @@
-use Rattle.std.proofs.Common.{◌≡◌, ◌++◌, ◌∙◌, ◌+◌, ◌-◌, ℕ, List, Option, Some, None, append_assoc, take, drop, length, length-drop, sym, ap, subst, arith, take-append-drop}
+use Rattle.std.proofs.Common.{[], refl, ◌≡◌, ◌++◌, ◌∙◌, ◌+◌, ◌-◌, ℕ, List, Option, Some, None, append_assoc, take, drop, length, length-drop, sym, ap, subst, arith, take-append-drop}
 use Rattle.std.proofs.lemmas.List.{drop-drop, take_all}
 use Rattle.std.specs.Io.KnownBytes.{Appends, Keeps, append_known}
+use Rattle.std.specs.Option.{is_some}
+use Rattle.std.proofs.KnownBytes.{Appends-kept, Appends-nil, Keeps-refl, append_known-kept}
+use Rattle.std.proofs.lemmas.Bool.{false≢true}
+use Rattle.wire.specs.Outgoing.{waits_out}
+use Rattle.wire.specs.declared.outbox.Sending.TheVariants.{Sent, Waits, Failed}
+use Rattle.wire.proofs.ReadAhead.{not_empty}
 use Rattle.wire.proofs.outbox.Outbox.send.Goals as goal
 
 -- of the bytes from s on, the first n are taken and the others wait
@@ -19,6 +25,92 @@ none_twice None new waits bytes rest is held = tt
 none_twice (Some xs) None waits bytes rest is held = absurd held
 none_twice (Some xs) (Some ys) waits bytes rest is held =
     ap (λ (t : List ℕ). t ++ rest) held ∙ append_assoc xs bytes rest ∙ ap (λ (t : List ℕ). xs ++ t) (sym is)
+
+failed_sent : Failed ≡ Sent → ⊥
+failed_sent e = cc
+
+waits_sent : Waits ≡ Sent → ⊥
+waits_sent e = cc
+
+waits_failed : Waits ≡ Failed → ⊥
+waits_failed e = cc
+
+same_out : (a b : Option (List ℕ)) (old new : List ℕ) → b ≡ a → new ≡ old → Keeps (append_known a old) (append_known b new)
+same_out a b old new e w =
+    subst (λ (t : Option (List ℕ)). Keeps (append_known a old) t) (sym (ap (λ (t : Option (List ℕ)). append_known t new) e ∙ ap (append_known a) w)) (Keeps-refl (append_known a old))
+
+pub returns-then-is_some-clause-sent : goal.returns-then-is_some-clause-sent
+returns-then-is_some-clause-sent g c = (λ e. absurd (failed_sent e), λ h. absurd (false≢true (sym h.1 ∙ sym c.if-is_some.ensures)))
+
+pub returns-then-is_some-clause-failed : goal.returns-then-is_some-clause-failed
+returns-then-is_some-clause-failed g c = (λ _. sym c.if-is_some.ensures, λ _. refl)
+
+pub returns-then-is_some-clause-takes : goal.returns-then-is_some-clause-takes
+returns-then-is_some-clause-takes g c = ([], refl, Appends-nil _)
+
+pub returns-then-is_some-clause-contents : goal.returns-then-is_some-clause-contents
+returns-then-is_some-clause-contents g c = Keeps-refl _
+
+pub returns-then-is_some-clause-kept : goal.returns-then-is_some-clause-kept
+returns-then-is_some-clause-kept g c = λ failed. failed
+
+pub returns-then-is_empty : goal.returns-then-is_empty
+returns-then-is_empty g c =
+    let contents = g.S.Write.contents in
+    let old = c.args.self.now in
+    let new = c.settle.new.self in
+    let none = sym c.if-is_some.ensures in
+    let settled = c.settle.ensures in
+    record {
+      sent = (λ e. (settled.waiting ∙ settled.sent.0 e, ap is_some settled.fault ∙ none), λ h. settled.sent.1 (sym settled.waiting ∙ h.0));
+      failed = (λ e. absurd (settled.hale e), λ some. absurd (false≢true (sym (ap is_some settled.fault ∙ none) ∙ some)));
+      takes = ([], sym settled.waiting, subst (λ (s : g.row.S.Denot). Appends (contents old.inner) (contents s) []) (sym settled.inner) (Appends-nil _));
+      contents = same_out (contents old.inner) (contents new.inner) (waits_out old) (waits_out new) (ap contents settled.inner) settled.waiting;
+      kept = λ some. absurd (false≢true (sym none ∙ some));
+    }
+
+pub returns-in-Ok-None : goal.returns-in-Ok-None
+returns-in-Ok-None g c =
+    let old = c.args.self.now in
+    let contents = g.S.Write.contents old.inner in
+    let new = g.S.Write.contents c.offer.new.writer in
+    let none = sym c.if-is_some.ensures in
+    let kept = rw c.in-Ok-None.field-0-is at c.in-Ok-None.ensures.none in
+    let seen = all_behind c.deref.result.now old.bytes.items old.start c.deref.ensures.value in
+    record {
+      sent = (λ e. absurd (waits_sent e), λ h. absurd (not_empty _ _ c.if-is_empty.ensures seen h.0));
+      failed = (λ e. absurd (waits_failed e), λ some. absurd (false≢true (sym none ∙ some)));
+      takes = ([], refl, Appends-kept contents contents new [] (Appends-nil contents) kept);
+      contents = append_known-kept contents new (waits_out old) kept;
+      kept = λ failed. failed;
+    }
+
+pub returns-in-Err : goal.returns-in-Err
+returns-in-Err g c =
+    let old = c.args.self.now in
+    let contents = g.S.Write.contents old.inner in
+    let new = g.S.Write.contents c.offer.new.writer in
+    let kept = c.in-Err.ensures.err in
+    record {
+      sent = (λ e. absurd (failed_sent e), λ h. absurd (false≢true (sym h.1)));
+      failed = (λ _. refl, λ _. refl);
+      takes = ([], refl, Appends-kept contents contents new [] (Appends-nil contents) kept);
+      contents = append_known-kept contents new (waits_out old) kept;
+      kept = λ _. refl;
+    }
+
+pub returns-in-Ok-Some-clause-sent : goal.returns-in-Ok-Some-clause-sent
+returns-in-Ok-Some-clause-sent g c =
+    let settled = c.settle-in-Ok-Some.ensures in
+    (λ e. (settled.waiting ∙ settled.sent.0 e, ap is_some settled.fault ∙ sym c.if-is_some.ensures), λ h. settled.sent.1 (sym settled.waiting ∙ h.0))
+
+pub returns-in-Ok-Some-clause-failed : goal.returns-in-Ok-Some-clause-failed
+returns-in-Ok-Some-clause-failed g c =
+    let settled = c.settle-in-Ok-Some.ensures in
+    (λ e. absurd (settled.hale e), λ some. absurd (false≢true (sym (ap is_some settled.fault ∙ sym c.if-is_some.ensures) ∙ some)))
+
+pub returns-in-Ok-Some-clause-kept : goal.returns-in-Ok-Some-clause-kept
+returns-in-Ok-Some-clause-kept g c = λ some. absurd (false≢true (c.if-is_some.ensures ∙ some))
 
 pub returns-in-Ok-Some-clause-takes : goal.returns-in-Ok-Some-clause-takes
 returns-in-Ok-Some-clause-takes g c =

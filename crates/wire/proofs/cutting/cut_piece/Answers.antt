@@ -1,0 +1,41 @@
+use Rattle.std.proofs.Common.{refl, ◌∙◌}
+use Rattle.std.specs.Io.KnownBytes.{prepend_known}
+use Rattle.std.proofs.KnownBytes.{Keeps-refl}
+use Rattle.wire.specs.Waiting.{taken, waiting}
+use Rattle.wire.proofs.Backlogs.{kept_grown}
+use Rattle.wire.proofs.ReadAhead.{not_empty, empty, gave, consumes_later, at_end}
+use Rattle.wire.proofs.cutting.cut_piece.Goals as goal
+
+pub returns : goal.returns
+returns g c =
+    let r = g.R.Read.remaining c.args.reader.now.inner in
+    let s = g.R.Read.remaining c.read_more.new.reader.inner in
+    let old = waiting c.args.backlog.now in
+    let mid = waiting c.read_more.new.self in
+    let new = c.take_some-2.new.backlog in
+    let part = c.take_some-2.ensures in
+    let (bytes, more, consumed, some, none) = c.in_ok-read_more.ensures.came in
+    let kept = kept_grown (prepend_known old r) r s old bytes mid (Keeps-refl _) consumed more in
+    record {
+      taken = consumes_later (prepend_known old r) (prepend_known mid s) (prepend_known (waiting new) s) _ kept (gave s mid (waiting new) (taken new c.take_some-2.result) part.taken);
+      size = (part.most, part.piece, part.within, part.size);
+      end = λ zero. at_end c.in_ok-read_more.field-0 r s old mid bytes (empty _ _ c.if-not-is_empty.ensures c.waiting.ensures) (part.none c.requires.some zero) more consumed some none;
+      fault = tt;
+      room = part.room ∙ c.read_more.ensures.room ∙ c.requires.room;
+      count = record { err = tt; ok = c.in_ok-read_more.ensures.count.ok };
+    }
+
+pub returns-then-not-is_empty : goal.returns-then-not-is_empty
+returns-then-not-is_empty g c =
+    let r = g.R.Read.remaining c.args.reader.now.inner in
+    let old = waiting c.args.backlog.now in
+    let new = c.take_some.new.backlog in
+    let part = c.take_some.ensures in
+    record {
+      taken = gave r old (waiting new) (taken new c.take_some.result) part.taken;
+      size = (part.most, part.piece, part.within, part.size);
+      end = λ zero. absurd (not_empty _ _ c.if-not-is_empty.ensures c.waiting.ensures (part.none c.requires.some zero));
+      fault = tt;
+      room = part.room ∙ c.requires.room;
+      count = record { err = tt; ok = refl };
+    }
