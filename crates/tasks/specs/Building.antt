@@ -1,5 +1,6 @@
 -- The rules of clap that the descriptions of commands and arguments stand for.
 use Rattle.std.specs.Prelude.{◌≡◌, ◌⊎◌, List, [], ◌∷◌, Option, Some, false, fold}
+use Rattle.std.specs.Borrow.{Bor}
 use Rattle.clap.specs.Lexer.{usize_max}
 use Rattle.clap.specs.Words.{App, Row, Rule, Text, app_of, new_app, new_rule, with_rule, with_subcommand}
 use Rattle.clap.specs.declared.builder.command.Command.{Command}
@@ -39,8 +40,8 @@ unfoldable pub app_in : Form → App
 app_in f = fold (λ app a. with_rule app (rule_in a)) (new_app f.name.now) f.arguments.now
 
 -- a command line with the commands of these forms
-abbrev pub lined : App → List Form → App
-lined = fold (λ app f. with_subcommand app (app_in f).top)
+abbrev pub lined : App → List (Bor Form) → App
+lined = fold (λ app f. with_subcommand app (app_in f.now).top)
 
 -- the command that the words name, with its matches, is a task and no replay
 abbrev pub NamesSole : Option (Text × List Row) → Type 0

@@ -264,7 +264,7 @@ const REGION: Argument = Argument {
 
 // `init FILE --clerk ID --secret SECRET --secret-file SECRETFILE --east M --west M --allowance N`. clap does
 // not know that exactly one of the two secrets is required.
-const INIT: Form = Form {
+static INIT: Form = Form {
     name: "init",
     about: "Makes an office file with one clerk's key and no boxes",
     text: Text::Usage(INIT_USAGE),
@@ -322,7 +322,7 @@ const INIT: Form = Form {
 };
 
 // `desk FILE LINE`.
-const DESK: Form = Form {
+static DESK: Form = Form {
     name: "desk",
     about: "Runs one command of the desk, on a key, a box, a file or the office",
     text: Text::After(DESK_FORMS),
@@ -339,7 +339,7 @@ const DESK: Form = Form {
 };
 
 // `link FILE METHOD TARGET --key ID --host H --region R --start MOMENT --expires N`.
-const LINK: Form = Form {
+static LINK: Form = Form {
     name: "link",
     about: "Writes a link to a file of an office, or to its desk, signed by a key",
     text: Text::Nothing,
@@ -380,7 +380,7 @@ const LINK: Form = Form {
 };
 
 // `links FILE --key ID --host H --region R`.
-const LINKS: Form = Form {
+static LINKS: Form = Form {
     name: "links",
     about: "Reads a list of wanted links and writes it with the signed links",
     text: Text::After(LINK_ROWS),
@@ -388,7 +388,7 @@ const LINKS: Form = Form {
 };
 
 // `manifest FILE`.
-const MANIFEST: Form = Form {
+static MANIFEST: Form = Form {
     name: "manifest",
     about: "Writes the receipts of an office as a list",
     text: Text::After(RECEIPT_ROWS),
@@ -396,7 +396,7 @@ const MANIFEST: Form = Form {
 };
 
 // `compare FILE`.
-const COMPARE: Form = Form {
+static COMPARE: Form = Form {
     name: "compare",
     about: "Reads a manifest and tells for each receipt whether its file is still there",
     text: Text::After(STATE_ROWS),
@@ -404,7 +404,7 @@ const COMPARE: Form = Form {
 };
 
 // `list FILE WHAT`.
-const LIST: Form = Form {
+static LIST: Form = Form {
     name: "list",
     about: "Lists the keys, the boxes or the files of an office",
     text: Text::After(LISTED_ROWS),
@@ -421,7 +421,7 @@ const LIST: Form = Form {
 };
 
 // `export FILE DIR --box NAME`.
-const EXPORT: Form = Form {
+static EXPORT: Form = Form {
     name: "export",
     about: "Writes the files of an office to a folder, with lists of them",
     text: Text::After(EXPORTED),
@@ -445,7 +445,7 @@ const EXPORT: Form = Form {
 };
 
 // `replay FILE STREAM.. --at MOMENT`.
-const REPLAY: Form = Form {
+static REPLAY: Form = Form {
     name: "replay",
     about: "Answers recorded connections, one after another, and prints the answers",
     text: Text::Nothing,
@@ -475,7 +475,7 @@ const REPLAY: Form = Form {
 };
 
 // `serve FILE --listen ADDR --connections N --patience SECONDS --open N --manifest OUT`.
-const SERVE: Form = Form {
+static SERVE: Form = Form {
     name: "serve",
     about: "Serves an office over HTTP until the given number of connections have ended",
     text: Text::Nothing,
@@ -520,30 +520,29 @@ const SERVE: Form = Form {
 };
 
 // `migrate FILE`.
-const MIGRATE: Form = Form {
+static MIGRATE: Form = Form {
     name: "migrate",
     about: "Migrates an office file from version 1 to version 2; a file of version 2 stays as it is",
     text: Text::After(UPGRADE),
     arguments: &[OFFICE_FILE],
 };
 
-// The commands, in the order of the help.
-const FORMS: [Form; 11] = [
-    INIT, DESK, LINK, LINKS, MANIFEST, COMPARE, LIST, EXPORT, REPLAY, SERVE, MIGRATE,
-];
-
 /// `drop COMMAND`.
 pub(crate) fn command_line<'a>(alloc: Global) -> Result<Command<'a>, AllocError>
     ensures { IfOk result (λ c. app_of c ≡ drop_app) }
 {
-    with_commands(alloc, bare_line(alloc), &FORMS)
+    // In the order of the help.
+    let forms = [
+        &INIT, &DESK, &LINK, &LINKS, &MANIFEST, &COMPARE, &LIST, &EXPORT, &REPLAY, &SERVE, &MIGRATE,
+    ];
+    with_commands(alloc, bare_line(alloc), &forms)
 }
 
 // Adds the commands of these forms to those of `line`.
 fn with_commands<'a>(
     alloc: Global,
     line: Command<'a>,
-    forms: &[Form],
+    forms: &[&Form],
 ) -> Result<Command<'a>, AllocError>
     ensures { (app : App) → app_of line.entry ≡ app → IfOk result (λ c. app_of c ≡ lined app forms.now) }
 {
