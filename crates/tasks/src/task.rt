@@ -1,7 +1,8 @@
 //! The task that the command line asks for.
 ghost use Rattle.std.specs.Prelude.{◌≡◌, ◌⊎◌, [], IfOk, IfErr, IfSome, IsErrAnd, IsSome, MatchResult, None, Some, codes, is_some, true, map};
 ghost use Rattle.clap.specs.Words.{all_of, app_of, fault_of, first_of, found_of, kind_of, rows_of, subcommand_of, subcommand_rows_of, takes};
-ghost use Rattle.tasks.specs.Tasks.{drop_app, HasDesk, HasExport, HasInit, HasLink, HasLinks, HasListing, HasOneSecret, HasReplay, HasServe, HasValue, IsDeskIn, IsExportIn, IsFaultOf, IsInitOf, IsLinkIn, IsLinksIn, IsListingIn, IsOfficeIn, IsReplayOf, IsSecretFault, IsSecretIn, IsServeIn, IsTaskIn, IsTaskOf, NamesCompare, NamesDesk, NamesExport, NamesInit, NamesLink, NamesLinks, NamesList, NamesListing, NamesManifest, NamesMigrate, NamesOneSecret, NamesReplay, NamesServe, NamesStock, NamesTask};
+ghost use Rattle.tasks.specs.Building.{NamesSole};
+ghost use Rattle.tasks.specs.Tasks.{drop_app, HasDesk, HasExport, HasInit, HasLink, HasLinks, HasListing, HasOneSecret, HasReplay, HasServe, HasValue, IsDeskIn, IsExportIn, IsFaultOf, IsInitOf, IsLinkIn, IsLinksIn, IsListingIn, IsOfficeIn, IsReplayOf, IsSecretFault, IsSecretIn, IsServeIn, IsTaskIn, IsTaskOf, NamesCompare, NamesDesk, NamesExport, NamesInit, NamesLink, NamesLinks, NamesListing, NamesManifest, NamesMigrate, NamesOneSecret, NamesReplay, NamesServe, NamesStock, NamesTask};
 
 use crate::words::{command_line, init_command};
 use clap::error::ErrorKind;
@@ -244,25 +245,23 @@ impl<'a> Task<'a> {
         ensures named { NamesTask (subcommand_rows_of matches.now)
             → IfOk result (λ found. IsSome found) }
     {
-        if let Some(task) = Task::init_in(matches) {
-            return Ok(Some(task));
+        match Task::sole_in(matches) {
+            Some(task) => Ok(Some(task)),
+            None => Task::replay_in(alloc, matches),
         }
-        if let Some(task) = Task::desk_in(matches) {
-            return Ok(Some(task));
-        }
-        if let Some(task) = Task::link_in(matches) {
-            return Ok(Some(task));
-        }
-        if let Some(task) = Task::stock_in(matches) {
-            return Ok(Some(task));
-        }
-        if let Some(task) = Task::serve_in(matches) {
-            return Ok(Some(task));
-        }
-        if let Some(task) = Task::migrate_in(matches) {
-            return Ok(Some(task));
-        }
-        Task::replay_in(alloc, matches)
+    }
+
+    // The task, if it is no replay, whose list of streams takes memory.
+    fn sole_in(matches: &ArgMatches<'a>) -> Option<Task<'a>>
+        ensures task { IfSome result (IsTaskIn (subcommand_rows_of matches.now)) }
+        ensures named { NamesSole (subcommand_rows_of matches.now) → IsSome result }
+    {
+        Task::init_in(matches)
+            .or(Task::desk_in(matches))
+            .or(Task::link_in(matches))
+            .or(Task::stock_in(matches))
+            .or(Task::serve_in(matches))
+            .or(Task::migrate_in(matches))
     }
 
     fn init_in(matches: &ArgMatches<'a>) -> Option<Task<'a>>
@@ -295,23 +294,16 @@ impl<'a> Task<'a> {
             .map(Task::Link)
     }
 
-    // A list or an export.
+    // A list that is read or written, or an export.
     fn stock_in(matches: &ArgMatches<'a>) -> Option<Task<'a>>
         ensures task { IfSome result (IsTaskIn (subcommand_rows_of matches.now)) }
         ensures named { NamesStock (subcommand_rows_of matches.now) → IsSome result }
-    {
-        Task::list_in(matches).or(Task::export_in(matches))
-    }
-
-    // A list that is read or written.
-    fn list_in(matches: &ArgMatches<'a>) -> Option<Task<'a>>
-        ensures task { IfSome result (IsTaskIn (subcommand_rows_of matches.now)) }
-        ensures named { NamesList (subcommand_rows_of matches.now) → IsSome result }
     {
         Task::links_in(matches)
             .or(Task::manifest_in(matches))
             .or(Task::compare_in(matches))
             .or(Task::listing_in(matches))
+            .or(Task::export_in(matches))
     }
 
     fn links_in(matches: &ArgMatches<'a>) -> Option<Task<'a>>

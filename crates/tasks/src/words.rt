@@ -1,12 +1,61 @@
 //! The program's command line, as clap reads it.
 ghost use Rattle.std.specs.Prelude.{◌≡◌, IfOk, false};
-ghost use Rattle.clap.specs.Words.{App, Rule, app_of, new_app, rule_of, with_rule, with_subcommand};
-ghost use Rattle.tasks.specs.Building.{IsLocal};
-ghost use Rattle.tasks.specs.Tasks.{allowance_rule, bare_app, clerk_app, compare_app, connections_rule, desk_app, drop_app, expires_rule, export_app, host_rule, init_app, key_rule, link_app, links_app, list_app, manifest_app, migrate_app, minutes_rule, open_rule, option_rule, optional_rule, patience_rule, region_rule, replay_app, serve_app, streams_rule, target_app, with_desk_commands, with_list_commands, with_server_commands, word_rule};
+ghost use Rattle.clap.specs.Words.{App, app_of, new_app, rule_of, with_subcommand};
+ghost use Rattle.tasks.specs.Building.{IsLocal, app_in, lined, rule_in, valued};
+ghost use Rattle.tasks.specs.Tasks.{bare_app, drop_app, init_app};
 
 use clap::builder::ValueParser;
 use clap::{Arg, Command};
 use std::alloc::{AllocError, Global};
+
+// A command without its commands below: its name, what it is about, a text for its help, and its arguments in order.
+struct Form {
+    name: &'static str,
+    about: &'static str,
+    text: Text,
+    arguments: &'static [Argument],
+}
+
+// A text that the help of a command has beside the usual ones.
+enum Text {
+    // None.
+    Nothing,
+    // The usage line, in place of the one that clap makes.
+    Usage(&'static str),
+    // A text after the help.
+    After(&'static str),
+}
+
+// An argument: its id, the name that the help shows for its value, its help, whether it must be given, and its form.
+struct Argument {
+    id: &'static str,
+    value: &'static str,
+    help: &'static str,
+    required: bool,
+    given: Given,
+}
+
+// How an argument is given.
+#[derive(Clone, Copy)]
+enum Given {
+    // A positional value.
+    Word,
+    // One or more positional values.
+    Words,
+    // `--id VALUE`.
+    Option(Value),
+}
+
+// The value of an option.
+#[derive(Clone, Copy)]
+enum Value {
+    // Any text.
+    Text,
+    // A whole number within these bounds.
+    Number(u64, u64),
+    // The same, with a default.
+    Defaulted(u64, u64, &'static str),
+}
 
 // The version of the program.
 const VERSION: &str = "1.0.0";
@@ -168,13 +217,340 @@ not at all. If a migration was interrupted, run it again.
 For an office file called office:
   drop migrate office";
 
+// The argument of a command on an office file.
+const OFFICE_FILE: Argument = Argument {
+    id: "file",
+    value: "FILE",
+    help: "The office file",
+    required: true,
+    given: Given::Word,
+};
+
+// The argument of a command that signs.
+const SIGNING_FILE: Argument = Argument {
+    id: "file",
+    value: "FILE",
+    help: SIGNER,
+    required: true,
+    given: Given::Word,
+};
+
+// `--key ID`.
+const KEY: Argument = Argument {
+    id: "key",
+    value: "ID",
+    help: "The id of the key that signs",
+    required: true,
+    given: Given::Option(Value::Text),
+};
+
+// `--host H`.
+const HOST: Argument = Argument {
+    id: "host",
+    value: "H",
+    help: "The host that the link names: files.example, or files.example:8080",
+    required: true,
+    given: Given::Option(Value::Text),
+};
+
+// `--region R`.
+const REGION: Argument = Argument {
+    id: "region",
+    value: "R",
+    help: "The region that the link names: us-east-1",
+    required: true,
+    given: Given::Option(Value::Text),
+};
+
+// `init FILE --clerk ID --secret SECRET --secret-file SECRETFILE --east M --west M --allowance N`. clap does
+// not know that exactly one of the two secrets is required.
+static INIT: Form = Form {
+    name: "init",
+    about: "Makes an office file with one clerk's key and no boxes",
+    text: Text::Usage(INIT_USAGE),
+    arguments: &[
+        Argument {
+            id: "file",
+            value: "FILE",
+            help: "The office file to make. It must not exist, or be empty",
+            required: true,
+            given: Given::Word,
+        },
+        Argument {
+            id: "clerk",
+            value: "ID",
+            help: "The id of the clerk's key: 1 to 64 of A-Z a-z 0-9 - _",
+            required: true,
+            given: Given::Option(Value::Text),
+        },
+        Argument {
+            id: "secret",
+            value: "SECRET",
+            help: "The key's secret: 1 to 128 visible ASCII characters without spaces",
+            required: false,
+            given: Given::Option(Value::Text),
+        },
+        Argument {
+            id: "secret-file",
+            value: "SECRETFILE",
+            help: "A file that holds the secret as its only line, so that the command line does not show it",
+            required: false,
+            given: Given::Option(Value::Text),
+        },
+        Argument {
+            id: "east",
+            value: "M",
+            help: "How many minutes the office's clock is ahead of UTC: 0 to 840",
+            required: false,
+            given: Given::Option(Value::Defaulted(0, 840, "0")),
+        },
+        Argument {
+            id: "west",
+            value: "M",
+            help: "How many minutes it is behind UTC: 0 to 840",
+            required: false,
+            given: Given::Option(Value::Defaulted(0, 840, "0")),
+        },
+        Argument {
+            id: "allowance",
+            value: "N",
+            help: "How many seconds before its start a link is accepted: 0 to 900",
+            required: false,
+            given: Given::Option(Value::Defaulted(0, 900, "0")),
+        },
+    ],
+};
+
+// `desk FILE LINE`.
+static DESK: Form = Form {
+    name: "desk",
+    about: "Runs one command of the desk, on a key, a box, a file or the office",
+    text: Text::After(DESK_FORMS),
+    arguments: &[
+        OFFICE_FILE,
+        Argument {
+            id: "line",
+            value: "LINE",
+            help: "One command of the desk in quotes, or - to read it from standard input",
+            required: true,
+            given: Given::Word,
+        },
+    ],
+};
+
+// `link FILE METHOD TARGET --key ID --host H --region R --start MOMENT --expires N`.
+static LINK: Form = Form {
+    name: "link",
+    about: "Writes a link to a file of an office, or to its desk, signed by a key",
+    text: Text::Nothing,
+    arguments: &[
+        SIGNING_FILE,
+        Argument {
+            id: "method",
+            value: "METHOD",
+            help: "PUT to upload, GET or HEAD to fetch, POST for a desk command",
+            required: true,
+            given: Given::Word,
+        },
+        Argument {
+            id: "target",
+            value: "TARGET",
+            help: "The box and the file's name: box/name. For POST the desk command",
+            required: true,
+            given: Given::Word,
+        },
+        KEY,
+        HOST,
+        REGION,
+        Argument {
+            id: "start",
+            value: "MOMENT",
+            help: "When the link becomes valid, in UTC: 20130524T000000Z. An office with an allowance accepts it that much earlier",
+            required: true,
+            given: Given::Option(Value::Text),
+        },
+        Argument {
+            id: "expires",
+            value: "N",
+            help: "How many seconds the link is valid: 1 to 604800 (one week)",
+            required: true,
+            given: Given::Option(Value::Number(1, 604_800)),
+        },
+    ],
+};
+
+// `links FILE --key ID --host H --region R`.
+static LINKS: Form = Form {
+    name: "links",
+    about: "Reads a list of wanted links and writes it with the signed links",
+    text: Text::After(LINK_ROWS),
+    arguments: &[SIGNING_FILE, KEY, HOST, REGION],
+};
+
+// `manifest FILE`.
+static MANIFEST: Form = Form {
+    name: "manifest",
+    about: "Writes the receipts of an office as a list",
+    text: Text::After(RECEIPT_ROWS),
+    arguments: &[OFFICE_FILE],
+};
+
+// `compare FILE`.
+static COMPARE: Form = Form {
+    name: "compare",
+    about: "Reads a manifest and tells for each receipt whether its file is still there",
+    text: Text::After(STATE_ROWS),
+    arguments: &[OFFICE_FILE],
+};
+
+// `list FILE WHAT`.
+static LIST: Form = Form {
+    name: "list",
+    about: "Lists the keys, the boxes or the files of an office",
+    text: Text::After(LISTED_ROWS),
+    arguments: &[
+        OFFICE_FILE,
+        Argument {
+            id: "what",
+            value: "WHAT",
+            help: "What to list: keys, boxes or files",
+            required: true,
+            given: Given::Word,
+        },
+    ],
+};
+
+// `export FILE DIR --box NAME`.
+static EXPORT: Form = Form {
+    name: "export",
+    about: "Writes the files of an office to a folder, with lists of them",
+    text: Text::After(EXPORTED),
+    arguments: &[
+        OFFICE_FILE,
+        Argument {
+            id: "dir",
+            value: "DIR",
+            help: "The folder to make",
+            required: true,
+            given: Given::Word,
+        },
+        Argument {
+            id: "box",
+            value: "NAME",
+            help: "Writes only the files of this box",
+            required: false,
+            given: Given::Option(Value::Text),
+        },
+    ],
+};
+
+// `replay FILE STREAM.. --at MOMENT`.
+static REPLAY: Form = Form {
+    name: "replay",
+    about: "Answers recorded connections, one after another, and prints the answers",
+    text: Text::Nothing,
+    arguments: &[
+        Argument {
+            id: "file",
+            value: "FILE",
+            help: "The office file. memory:ID/SECRET makes an empty office for this run, with one clerk's key",
+            required: true,
+            given: Given::Word,
+        },
+        Argument {
+            id: "stream",
+            value: "STREAM",
+            help: "The files with the bytes that each caller sent",
+            required: true,
+            given: Given::Words,
+        },
+        Argument {
+            id: "at",
+            value: "MOMENT",
+            help: "The time to answer at, in UTC: 20130524T000000Z is 24 May 2013, 00:00:00",
+            required: true,
+            given: Given::Option(Value::Text),
+        },
+    ],
+};
+
+// `serve FILE --listen ADDR --connections N --patience SECONDS --open N --manifest OUT`.
+static SERVE: Form = Form {
+    name: "serve",
+    about: "Serves an office over HTTP until the given number of connections have ended",
+    text: Text::Nothing,
+    arguments: &[
+        OFFICE_FILE,
+        Argument {
+            id: "listen",
+            value: "ADDR",
+            help: "The address to listen on: 127.0.0.1:8080, or 0.0.0.0:8080 for all addresses of this machine",
+            required: true,
+            given: Given::Option(Value::Text),
+        },
+        Argument {
+            id: "connections",
+            value: "N",
+            help: "How many connections are served before the program ends: 1 to 1000000",
+            required: true,
+            given: Given::Option(Value::Number(1, 1_000_000)),
+        },
+        Argument {
+            id: "patience",
+            value: "SECONDS",
+            help: "How many seconds to wait for a peer: 0 to 3600; 0 is without limit",
+            required: false,
+            given: Given::Option(Value::Defaulted(0, 3600, "30")),
+        },
+        Argument {
+            id: "open",
+            value: "N",
+            help: "How many connections may be open at a time: 1 to 4096",
+            required: false,
+            given: Given::Option(Value::Defaulted(1, 4096, "512")),
+        },
+        Argument {
+            id: "manifest",
+            value: "OUT",
+            help: "A file that is kept up to date as the office's manifest",
+            required: false,
+            given: Given::Option(Value::Text),
+        },
+    ],
+};
+
+// `migrate FILE`.
+static MIGRATE: Form = Form {
+    name: "migrate",
+    about: "Migrates an office file from version 1 to version 2; a file of version 2 stays as it is",
+    text: Text::After(UPGRADE),
+    arguments: &[OFFICE_FILE],
+};
+
 /// `drop COMMAND`.
 pub(crate) fn command_line<'a>(alloc: Global) -> Result<Command<'a>, AllocError>
     ensures { IfOk result (λ c. app_of c ≡ drop_app) }
 {
-    let with_desk = add_desk_commands(alloc, Ok(bare_line(alloc)));
-    let with_lists = add_list_commands(alloc, with_desk);
-    add_server_commands(alloc, with_lists)
+    // In the order of the help.
+    let forms = [
+        &INIT, &DESK, &LINK, &LINKS, &MANIFEST, &COMPARE, &LIST, &EXPORT, &REPLAY, &SERVE, &MIGRATE,
+    ];
+    with_commands(alloc, bare_line(alloc), &forms)
+}
+
+// Adds the commands of these forms to those of `line`.
+fn with_commands<'a>(
+    alloc: Global,
+    line: Command<'a>,
+    forms: &[&Form],
+) -> Result<Command<'a>, AllocError>
+    ensures { (app : App) → app_of line.entry ≡ app → IfOk result (λ c. app_of c ≡ lined app forms.now) }
+{
+    let mut line = line;
+    for form in forms {
+        line = with_command(line, built(alloc, form))?;
+    }
+    Ok(line)
 }
 
 // `drop` without its commands.
@@ -190,27 +566,9 @@ fn bare_line<'a>(alloc: Global) -> Command<'a>
         .arg_required_else_help(true)
 }
 
-// Adds a command to those of `line`. A function that builds takes what may have failed, and passes on a refused allocation:
-// with `?` at each step a proof would grow with the square of the steps. A call drops what is left then, so that the proof
-// does not drop each of its fields.
+// Adds a command to those of `line`. A call drops the line where there is none, so that the proof does not drop each of
+// its fields.
 fn with_command<'a>(
-    line: Result<Command<'a>, AllocError>,
-    command: Result<Command<'a>, AllocError>,
-) -> Result<Command<'a>, AllocError>
-    ensures { (app below : App) → IfOk line.entry (λ c. app_of c ≡ app) → IfOk command.entry (IsLocal below)
-        → IfOk result (λ c. app_of c ≡ with_subcommand app below.top) }
-{
-    match line {
-        Ok(line) => with_built(line, command),
-        Err(error) => {
-            drop(command);
-            Err(error)
-        }
-    }
-}
-
-// The same for a line that did not fail.
-fn with_built<'a>(
     line: Command<'a>,
     command: Result<Command<'a>, AllocError>,
 ) -> Result<Command<'a>, AllocError>
@@ -226,526 +584,62 @@ fn with_built<'a>(
     }
 }
 
-// `init`, `desk`, `link`, `links`.
-fn add_desk_commands<'a>(
-    alloc: Global,
-    line: Result<Command<'a>, AllocError>,
-) -> Result<Command<'a>, AllocError>
-    ensures { (app : App) → IfOk line.entry (λ c. app_of c ≡ app)
-        → IfOk result (λ c. app_of c ≡ with_desk_commands app) }
-{
-    let line = with_command(line, init_command(alloc));
-    let line = with_command(line, desk_command(alloc));
-    let line = with_command(line, link_command(alloc));
-    with_command(line, links_command(alloc))
-}
-
-// `manifest`, `compare`, `list`, `export`.
-fn add_list_commands<'a>(
-    alloc: Global,
-    line: Result<Command<'a>, AllocError>,
-) -> Result<Command<'a>, AllocError>
-    ensures { (app : App) → IfOk line.entry (λ c. app_of c ≡ app)
-        → IfOk result (λ c. app_of c ≡ with_list_commands app) }
-{
-    let line = with_command(line, manifest_command(alloc));
-    let line = with_command(line, compare_command(alloc));
-    let line = with_command(line, list_command(alloc));
-    with_command(line, export_command(alloc))
-}
-
-// `replay`, `serve`, `migrate`.
-fn add_server_commands<'a>(
-    alloc: Global,
-    line: Result<Command<'a>, AllocError>,
-) -> Result<Command<'a>, AllocError>
-    ensures { (app : App) → IfOk line.entry (λ c. app_of c ≡ app)
-        → IfOk result (λ c. app_of c ≡ with_server_commands app) }
-{
-    let line = with_command(line, replay_command(alloc));
-    let line = with_command(line, serve_command(alloc));
-    with_command(line, migrate_command(alloc))
-}
-
-// The command of this name, without arguments.
-fn named<'a>(alloc: Global, name: &'a str, about: &'a str) -> Command<'a>
-    ensures { IsLocal (new_app name.entry.now) result }
-{
-    Command::new(alloc, name).about(about)
-}
-
-// The same with a text after its help.
-fn explained<'a>(alloc: Global, name: &'a str, about: &'a str, text: &'a str) -> Command<'a>
-    ensures { IsLocal (new_app name.entry.now) result }
-{
-    named(alloc, name, about).after_help(text)
-}
-
-// Adds an argument to a command.
-fn with_arg<'a>(
-    command: Result<Command<'a>, AllocError>,
-    arg: Arg<'a>,
-) -> Result<Command<'a>, AllocError>
-    ensures { (app : App) (rule : Rule) → IfOk command.entry (IsLocal app) → rule_of arg.entry ≡ rule → arg.entry.global ≡ false
-        → IfOk result (IsLocal (with_rule app rule)) }
-{
-    match command {
-        Ok(command) => command.arg(arg),
-        Err(error) => {
-            drop(arg);
-            Err(error)
-        }
-    }
-}
-
-/// `init FILE --clerk ID --secret SECRET --secret-file SECRETFILE --east M --west M --allowance N`. clap does
-/// not know that exactly one of the two secrets is required.
+/// The command `init`.
 pub(crate) fn init_command<'a>(alloc: Global) -> Result<Command<'a>, AllocError>
     ensures { IfOk result (IsLocal init_app) }
 {
-    let command = init_by_clerk(alloc);
-    let command = with_arg(
-        command,
-        optional(
-            alloc,
-            "secret",
-            "SECRET",
-            "The key's secret: 1 to 128 visible ASCII characters without spaces",
-        ),
-    );
-    let command = with_arg(
-        command,
-        optional(
-            alloc,
-            "secret-file",
-            "SECRETFILE",
-            "A file that holds the secret as its only line, so that the command line does not show it",
-        ),
-    );
-    let command = with_arg(
-        command,
-        minutes(
-            alloc,
-            "east",
-            "How many minutes the office's clock is ahead of UTC: 0 to 840",
-        ),
-    );
-    let command = with_arg(
-        command,
-        minutes(alloc, "west", "How many minutes it is behind UTC: 0 to 840"),
-    );
-    with_arg(command, allowance_option(alloc))
+    built(alloc, &INIT)
 }
 
-// `init FILE --clerk ID`.
-fn init_by_clerk<'a>(alloc: Global) -> Result<Command<'a>, AllocError>
-    ensures { IfOk result (IsLocal clerk_app) }
+// The command of this form.
+fn built<'a>(alloc: Global, form: &Form) -> Result<Command<'a>, AllocError>
+    ensures { IfOk result (IsLocal (app_in form.now)) }
 {
-    let command = named(
-        alloc,
-        "init",
-        "Makes an office file with one clerk's key and no boxes",
-    )
-    .override_usage(INIT_USAGE);
-    let command = with_arg(
-        Ok(command),
-        word(
-            alloc,
-            "file",
-            "FILE",
-            "The office file to make. It must not exist, or be empty",
-        ),
-    );
-    with_arg(
-        command,
-        option(
-            alloc,
-            "clerk",
-            "ID",
-            "The id of the clerk's key: 1 to 64 of A-Z a-z 0-9 - _",
-        ),
-    )
+    let mut command = opened(alloc, form);
+    for argument in form.arguments {
+        command = command.arg(arg_of(alloc, argument))?;
+    }
+    Ok(command)
 }
 
-// `desk FILE LINE`.
-fn desk_command<'a>(alloc: Global) -> Result<Command<'a>, AllocError>
-    ensures { IfOk result (IsLocal desk_app) }
+// The same without its arguments.
+fn opened<'a>(alloc: Global, form: &Form) -> Command<'a>
+    ensures { IsLocal (new_app form.now.name.now) result }
 {
-    let command = explained(
-        alloc,
-        "desk",
-        "Runs one command of the desk, on a key, a box, a file or the office",
-        DESK_FORMS,
-    );
-    let command = with_arg(Ok(command), word(alloc, "file", "FILE", "The office file"));
-    with_arg(
-        command,
-        word(
-            alloc,
-            "line",
-            "LINE",
-            "One command of the desk in quotes, or - to read it from standard input",
-        ),
-    )
+    let command = Command::new(alloc, form.name).about(form.about);
+    match form.text {
+        Text::Nothing => command,
+        Text::Usage(text) => command.override_usage(text),
+        Text::After(text) => command.after_help(text),
+    }
 }
 
-// `link FILE METHOD TARGET --key ID --host H --region R --start MOMENT --expires N`.
-fn link_command<'a>(alloc: Global) -> Result<Command<'a>, AllocError>
-    ensures { IfOk result (IsLocal link_app) }
-{
-    let command = with_arg(target_command(alloc), key_option(alloc));
-    let command = with_arg(command, host_option(alloc));
-    let command = with_arg(command, region_option(alloc));
-    let command = with_arg(
-        command,
-        option(
-            alloc,
-            "start",
-            "MOMENT",
-            "When the link becomes valid, in UTC: 20130524T000000Z. An office with an allowance accepts it that much earlier",
-        ),
-    );
-    with_arg(command, expires_option(alloc))
-}
-
-// `link FILE METHOD TARGET`.
-fn target_command<'a>(alloc: Global) -> Result<Command<'a>, AllocError>
-    ensures { IfOk result (IsLocal target_app) }
-{
-    let command = named(
-        alloc,
-        "link",
-        "Writes a link to a file of an office, or to its desk, signed by a key",
-    );
-    let command = with_arg(Ok(command), word(alloc, "file", "FILE", SIGNER));
-    let command = with_arg(
-        command,
-        word(
-            alloc,
-            "method",
-            "METHOD",
-            "PUT to upload, GET or HEAD to fetch, POST for a desk command",
-        ),
-    );
-    with_arg(
-        command,
-        word(
-            alloc,
-            "target",
-            "TARGET",
-            "The box and the file's name: box/name. For POST the desk command",
-        ),
-    )
-}
-
-// `links FILE --key ID --host H --region R`.
-fn links_command<'a>(alloc: Global) -> Result<Command<'a>, AllocError>
-    ensures { IfOk result (IsLocal links_app) }
-{
-    let command = explained(
-        alloc,
-        "links",
-        "Reads a list of wanted links and writes it with the signed links",
-        LINK_ROWS,
-    );
-    let command = with_arg(Ok(command), word(alloc, "file", "FILE", SIGNER));
-    let command = with_arg(command, key_option(alloc));
-    let command = with_arg(command, host_option(alloc));
-    with_arg(command, region_option(alloc))
-}
-
-// `manifest FILE`.
-fn manifest_command<'a>(alloc: Global) -> Result<Command<'a>, AllocError>
-    ensures { IfOk result (IsLocal manifest_app) }
-{
-    let command = explained(
-        alloc,
-        "manifest",
-        "Writes the receipts of an office as a list",
-        RECEIPT_ROWS,
-    );
-    with_arg(Ok(command), word(alloc, "file", "FILE", "The office file"))
-}
-
-// `compare FILE`.
-fn compare_command<'a>(alloc: Global) -> Result<Command<'a>, AllocError>
-    ensures { IfOk result (IsLocal compare_app) }
-{
-    let command = explained(
-        alloc,
-        "compare",
-        "Reads a manifest and tells for each receipt whether its file is still there",
-        STATE_ROWS,
-    );
-    with_arg(Ok(command), word(alloc, "file", "FILE", "The office file"))
-}
-
-// `list FILE WHAT`.
-fn list_command<'a>(alloc: Global) -> Result<Command<'a>, AllocError>
-    ensures { IfOk result (IsLocal list_app) }
-{
-    let command = explained(
-        alloc,
-        "list",
-        "Lists the keys, the boxes or the files of an office",
-        LISTED_ROWS,
-    );
-    let command = with_arg(Ok(command), word(alloc, "file", "FILE", "The office file"));
-    with_arg(
-        command,
-        word(alloc, "what", "WHAT", "What to list: keys, boxes or files"),
-    )
-}
-
-// `export FILE DIR --box NAME`.
-fn export_command<'a>(alloc: Global) -> Result<Command<'a>, AllocError>
-    ensures { IfOk result (IsLocal export_app) }
-{
-    let command = explained(
-        alloc,
-        "export",
-        "Writes the files of an office to a folder, with lists of them",
-        EXPORTED,
-    );
-    let command = with_arg(Ok(command), word(alloc, "file", "FILE", "The office file"));
-    let command = with_arg(command, word(alloc, "dir", "DIR", "The folder to make"));
-    with_arg(
-        command,
-        optional(alloc, "box", "NAME", "Writes only the files of this box"),
-    )
-}
-
-// `replay FILE STREAM.. --at MOMENT`.
-fn replay_command<'a>(alloc: Global) -> Result<Command<'a>, AllocError>
-    ensures { IfOk result (IsLocal replay_app) }
-{
-    let command = named(
-        alloc,
-        "replay",
-        "Answers recorded connections, one after another, and prints the answers",
-    );
-    let command = with_arg(
-        Ok(command),
-        word(
-            alloc,
-            "file",
-            "FILE",
-            "The office file. memory:ID/SECRET makes an empty office for this run, with one clerk's key",
-        ),
-    );
-    let command = with_arg(command, streams(alloc));
-    with_arg(
-        command,
-        option(
-            alloc,
-            "at",
-            "MOMENT",
-            "The time to answer at, in UTC: 20130524T000000Z is 24 May 2013, 00:00:00",
-        ),
-    )
-}
-
-// `serve FILE --listen ADDR --connections N --patience SECONDS --open N --manifest OUT`.
-fn serve_command<'a>(alloc: Global) -> Result<Command<'a>, AllocError>
-    ensures { IfOk result (IsLocal serve_app) }
-{
-    let command = named(
-        alloc,
-        "serve",
-        "Serves an office over HTTP until the given number of connections have ended",
-    );
-    let command = with_arg(Ok(command), word(alloc, "file", "FILE", "The office file"));
-    let command = with_arg(
-        command,
-        option(
-            alloc,
-            "listen",
-            "ADDR",
-            "The address to listen on: 127.0.0.1:8080, or 0.0.0.0:8080 for all addresses of this machine",
-        ),
-    );
-    let command = with_arg(command, connections_option(alloc));
-    let command = with_arg(command, patience_option(alloc));
-    let command = with_arg(command, open_option(alloc));
-    with_arg(
-        command,
-        optional(
-            alloc,
-            "manifest",
-            "OUT",
-            "A file that is kept up to date as the office's manifest",
-        ),
-    )
-}
-
-// `migrate FILE`.
-fn migrate_command<'a>(alloc: Global) -> Result<Command<'a>, AllocError>
-    ensures { IfOk result (IsLocal migrate_app) }
-{
-    let command = explained(
-        alloc,
-        "migrate",
-        "Migrates an office file from version 1 to version 2; a file of version 2 stays as it is",
-        UPGRADE,
-    );
-    with_arg(Ok(command), word(alloc, "file", "FILE", "The office file"))
-}
-
-// A positional value, with the name that the help shows.
-fn word<'a>(alloc: Global, id: &'a str, name: &'a str, help: &'a str) -> Arg<'a>
-    ensures rule { rule_of result ≡ word_rule id.entry.now }
+// The argument, as clap has it.
+fn arg_of<'a>(alloc: Global, argument: &Argument) -> Arg<'a>
+    ensures rule { rule_of result ≡ rule_in argument.now }
     ensures local { result.global ≡ false }
 {
-    Arg::new(alloc, id)
-        .value_name(name)
-        .required(true)
-        .help(help)
+    let arg = Arg::new(alloc, argument.id)
+        .value_name(argument.value)
+        .required(argument.required)
+        .help(argument.help);
+    match argument.given {
+        Given::Word => arg,
+        Given::Words => arg.num_args(1..),
+        Given::Option(value) => with_value(arg.long(argument.id), value),
+    }
 }
 
-// One or more streams.
-fn streams<'a>(alloc: Global) -> Arg<'a>
-    ensures rule { rule_of result ≡ streams_rule }
-    ensures local { result.global ≡ false }
+// An option with this value.
+fn with_value<'a>(arg: Arg<'a>, value: Value) -> Arg<'a>
+    ensures rule { rule_of result ≡ valued (rule_of arg.entry) value }
+    ensures local { result.global ≡ arg.entry.global }
 {
-    word(
-        alloc,
-        "stream",
-        "STREAM",
-        "The files with the bytes that each caller sent",
-    )
-    .num_args(1..)
-}
-
-// `--id VALUE`.
-fn option<'a>(alloc: Global, id: &'a str, name: &'a str, help: &'a str) -> Arg<'a>
-    ensures rule { rule_of result ≡ option_rule id.entry.now }
-    ensures local { result.global ≡ false }
-{
-    Arg::new(alloc, id)
-        .long(id)
-        .value_name(name)
-        .required(true)
-        .help(help)
-}
-
-// `--id VALUE`, optional.
-fn optional<'a>(alloc: Global, id: &'a str, name: &'a str, help: &'a str) -> Arg<'a>
-    ensures rule { rule_of result ≡ optional_rule id.entry.now }
-    ensures local { result.global ≡ false }
-{
-    Arg::new(alloc, id).long(id).value_name(name).help(help)
-}
-
-// `--key ID`.
-fn key_option<'a>(alloc: Global) -> Arg<'a>
-    ensures rule { rule_of result ≡ key_rule }
-    ensures local { result.global ≡ false }
-{
-    option(alloc, "key", "ID", "The id of the key that signs")
-}
-
-// `--host H`.
-fn host_option<'a>(alloc: Global) -> Arg<'a>
-    ensures rule { rule_of result ≡ host_rule }
-    ensures local { result.global ≡ false }
-{
-    option(
-        alloc,
-        "host",
-        "H",
-        "The host that the link names: files.example, or files.example:8080",
-    )
-}
-
-// `--region R`.
-fn region_option<'a>(alloc: Global) -> Arg<'a>
-    ensures rule { rule_of result ≡ region_rule }
-    ensures local { result.global ≡ false }
-{
-    option(
-        alloc,
-        "region",
-        "R",
-        "The region that the link names: us-east-1",
-    )
-}
-
-// `--expires N`.
-fn expires_option<'a>(alloc: Global) -> Arg<'a>
-    ensures rule { rule_of result ≡ expires_rule }
-    ensures local { result.global ≡ false }
-{
-    option(
-        alloc,
-        "expires",
-        "N",
-        "How many seconds the link is valid: 1 to 604800 (one week)",
-    )
-    .value_parser(ValueParser::unsigned(1, 604_800))
-}
-
-// `--connections N`.
-fn connections_option<'a>(alloc: Global) -> Arg<'a>
-    ensures rule { rule_of result ≡ connections_rule }
-    ensures local { result.global ≡ false }
-{
-    option(
-        alloc,
-        "connections",
-        "N",
-        "How many connections are served before the program ends: 1 to 1000000",
-    )
-    .value_parser(ValueParser::unsigned(1, 1_000_000))
-}
-
-// `--patience SECONDS`, 30 by default.
-fn patience_option<'a>(alloc: Global) -> Arg<'a>
-    ensures rule { rule_of result ≡ patience_rule }
-    ensures local { result.global ≡ false }
-{
-    Arg::new(alloc, "patience")
-        .long("patience")
-        .value_name("SECONDS")
-        .value_parser(ValueParser::unsigned(0, 3600))
-        .default_value("30")
-        .help("How many seconds to wait for a peer: 0 to 3600; 0 is without limit")
-}
-
-// `--open N`, 512 by default.
-fn open_option<'a>(alloc: Global) -> Arg<'a>
-    ensures rule { rule_of result ≡ open_rule }
-    ensures local { result.global ≡ false }
-{
-    Arg::new(alloc, "open")
-        .long("open")
-        .value_name("N")
-        .value_parser(ValueParser::unsigned(1, 4096))
-        .default_value("512")
-        .help("How many connections may be open at a time: 1 to 4096")
-}
-
-// `--allowance N`, 0 by default.
-fn allowance_option<'a>(alloc: Global) -> Arg<'a>
-    ensures rule { rule_of result ≡ allowance_rule }
-    ensures local { result.global ≡ false }
-{
-    Arg::new(alloc, "allowance")
-        .long("allowance")
-        .value_name("N")
-        .value_parser(ValueParser::unsigned(0, 900))
-        .default_value("0")
-        .help("How many seconds before its start a link is accepted: 0 to 900")
-}
-
-// `--id M`, a whole number of minutes, 0 by default.
-fn minutes<'a>(alloc: Global, id: &'a str, help: &'a str) -> Arg<'a>
-    ensures rule { rule_of result ≡ minutes_rule id.entry.now }
-    ensures local { result.global ≡ false }
-{
-    Arg::new(alloc, id)
-        .long(id)
-        .value_name("M")
-        .value_parser(ValueParser::unsigned(0, 840))
-        .default_value("0")
-        .help(help)
+    match value {
+        Value::Text => arg,
+        Value::Number(least, most) => arg.value_parser(ValueParser::unsigned(least, most)),
+        Value::Defaulted(least, most, default) => arg
+            .value_parser(ValueParser::unsigned(least, most))
+            .default_value(default),
+    }
 }
