@@ -1,9 +1,8 @@
 //! Writing a link (Amazon S3 API Reference, "Authenticating Requests: Using Query Parameters").
 ghost use Rattle.std.specs.Prelude.{◌≡◌, ◌≢◌, ◌<◌, ℕ, List, ◌∷◌, ◌++◌, length, map, codes, IsPermutation, OnOk, OnErr, IfOk, IfErr};
-ghost use Rattle.std.specs.List.{AllByRecursion};
 ghost use Rattle.std.specs.List.Sorted.{IsSortedBy};
 ghost use Rattle.std.specs.Ordering.{is_lt};
-ghost use Rattle.sigtext.specs.Bytes.{AreBytes, bytes_cmp};
+ghost use Rattle.sigtext.specs.Bytes.{bytes_cmp};
 ghost use Rattle.sigtext.specs.CanonicalQuery.{param_text, IsCanonicalQuery};
 ghost use Rattle.sigtext.specs.CanonicalRequest.{IsTheOnly};
 ghost use Rattle.sigtext.specs.Fields.{header_of};
@@ -18,7 +17,7 @@ ghost use Rattle.sigtext.specs.UriEncode.{uri_encoded};
 ghost use Rattle.sigtext.specs.declared.encode.Slash.TheVariants as slash;
 ghost use Rattle.sigv4.specs.Scopes.{scope_of};
 ghost use Rattle.sigv4.specs.Signature.{scope_text};
-ghost use Rattle.links.specs.Drafts.{param, draft_values, draft_params, target_text, HasBytes};
+ghost use Rattle.links.specs.Drafts.{param, draft_values, draft_params, values_for, HasBytes, IsDraft};
 ghost use Rattle.links.specs.Orders.{param_of, terms_of, AreSound, IsFirstFault, IsLinkFor};
 
 use crate::orders::{LinkFault, LinkKey, LinkOrder, OrderParam, check_order};
@@ -78,13 +77,16 @@ fn credential_text(alloc: Global, scope: &Scope<'_>) -> Result<Vec<u8>, AllocErr
     ensures { IfOk result
         (λ t. t.items ≡ scope.now.key_id.now ++ 47 ∷ scope_text (scope_of scope.now)) }
 {
-    let mut text = Vec::from_slice(alloc, scope.key_id)?;
-    text.push(b'/')?;
-    text.extend_from_slice(scope.date)?;
-    text.push(b'/')?;
-    text.extend_from_slice(scope.region)?;
-    text.extend_from_slice(b"/s3/aws4_request")?;
-    Ok(text)
+    let slash: &[u8] = b"/";
+    [
+        scope.key_id,
+        slash,
+        scope.date,
+        slash,
+        scope.region,
+        b"/s3/aws4_request",
+    ]
+    .concat(alloc)
 }
 
 // The values of the signing parameters, except the algorithm, which is fixed, and the signature.
@@ -150,9 +152,7 @@ fn append_param(name: &[u8], value: &[u8], text: &mut Vec<u8>) -> Result<(), All
 // The target with this path and these parameters. There is at least one parameter.
 fn draft_text(alloc: Global, path: &[u8], params: &[OrderParam<'_>]) -> Result<Vec<u8>, AllocError>
     requires { 0 < length params.now }
-    ensures written { IfOk result (λ t. t.items ≡ target_text path.now (map param_of params.now)) }
-    ensures bytes { IfOk result
-        (λ t. AreBytes path.now × AllByRecursion HasBytes (map param_of params.now)) }
+    ensures { IfOk result (λ t. IsDraft path.now (map param_of params.now) t.items) }
 {
     let mut text = Vec::new(alloc);
     uri_encode(path, Slash::Kept, &mut text)?;
@@ -213,6 +213,50 @@ fn read_parts<'a>(
     }
 }
 
+// The target that an order's link begins as: with the signing parameters except the signature, and the order's own.
+fn draft_of(
+    alloc: Global,
+    order: &LinkOrder<'_>,
+    scope: &Scope<'_>,
+    date: &[u8],
+    names: &[u8],
+) -> Result<Vec<u8>, AllocError>
+    ensures { IfOk result
+        (λ t. IsDraft order.now.path.now
+        (draft_params
+        (values_for scope.now.key_id.now (scope_of scope.now) date.now order.now.expires names.now)
+        (map param_of order.now.params.now)) t.items) }
+{
+    let credential = credential_text(alloc, scope)?;
+    let mut number = Buffer::new();
+    let five = DraftTexts {
+        credential: &credential,
+        date,
+        expires: number.format(order.expires).as_bytes(),
+        names,
+    };
+    let params = all_params(alloc, &five, order.params)?;
+    draft_text(alloc, order.path, &params)
+}
+
+// Appends the path, the canonical query and the signature.
+fn append_signed(
+    path: &[u8],
+    params: &Params<'_>,
+    signature: &[u8],
+    text: &mut Vec<u8>,
+) -> Result<(), AllocError>
+    ensures { OnOk result ((ps : List Param) → HoldsParams params.now ps
+        → (query : List ℕ) × IsTheOnly (IsCanonicalQuery ps) query
+        × (text.new.items ≡ text.old.items ++ (uri_encoded slash.Kept path.now ++ 63 ∷ query ++ codes "&X-Amz-Signature=" ++ signature.now))) }
+{
+    uri_encode(path, Slash::Kept, text)?;
+    text.push(b'?')?;
+    params.query_into(text)?;
+    text.extend_from_slice(b"&X-Amz-Signature=")?;
+    text.extend_from_slice(signature)
+}
+
 // The path, the canonical query and the signature.
 fn final_text(
     alloc: Global,
@@ -225,11 +269,7 @@ fn final_text(
         × (t.items ≡ uri_encoded slash.Kept path.now ++ 63 ∷ query ++ codes "&X-Amz-Signature=" ++ signature.now)) }
 {
     let mut text = Vec::new(alloc);
-    uri_encode(path, Slash::Kept, &mut text)?;
-    text.push(b'?')?;
-    params.query_into(&mut text)?;
-    text.extend_from_slice(b"&X-Amz-Signature=")?;
-    text.extend_from_slice(signature)?;
+    append_signed(path, params, signature, &mut text)?;
     Ok(text)
 }
 
@@ -253,16 +293,7 @@ fn link_text(
         date: &date[..8],
         region,
     };
-    let credential = credential_text(alloc, &scope)?;
-    let mut number = Buffer::new();
-    let five = DraftTexts {
-        credential: &credential,
-        date: &date,
-        expires: number.format(order.expires).as_bytes(),
-        names: &names,
-    };
-    let params = all_params(alloc, &five, order.params)?;
-    let draft = draft_text(alloc, order.path, &params)?;
+    let draft = draft_of(alloc, order, &scope, &date, &names)?;
     let parts = read_parts(alloc, order.method, &draft, &fields, &names)?;
     let digits = signature(key.secret, &scope, &order.start, &parts);
     final_text(alloc, order.path, &parts.params, &digits)

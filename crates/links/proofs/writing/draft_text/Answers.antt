@@ -38,11 +38,12 @@ loop-param-preserved c =
       bytes = bytes_more c.args.params.now c.loop-param.param-index _ c.loop-param.invariant.bytes c.loop-param-test.true c.append_param.ensures.bytes;
     }
 
-pub returns-clause-written : goal.returns-clause-written
-returns-clause-written c =
+pub returns : goal.returns
+returns c =
     let none = at_drop_all (λ (rest : List OrderParam). joined_behind (c.loop-param.separator ∷ []) 38 (texts rest)) c.args.params.now c.loop-param.param-index c.loop-param-test.false
     ∙ joined_behind-nil (c.loop-param.separator ∷ []) 38 in
-    sym (c.loop-param.invariant.text ∙ ap (λ (t : List ℕ). c.loop-param.text.items ++ t) none ∙ append-nil c.loop-param.text.items)
-
-pub returns-clause-bytes : goal.returns-clause-bytes
-returns-clause-bytes c = (are_bytes c.args.path.now c.type_inv.path, all_bytes c.args.params.now c.loop-param.param-index c.loop-param.invariant.bytes c.loop-param-test.false)
+    record {
+      path_bytes = are_bytes c.args.path.now c.type_inv.path;
+      param_bytes = all_bytes c.args.params.now c.loop-param.param-index c.loop-param.invariant.bytes c.loop-param-test.false;
+      written = sym (c.loop-param.invariant.text ∙ ap (λ (t : List ℕ). c.loop-param.text.items ++ t) none ∙ append-nil c.loop-param.text.items);
+    }
