@@ -118,3 +118,8 @@ done_to_none remaining done told a b p d lt free kept is =
 pub sent_there : {R W : Type 0} (contents : W → Option (List ℕ)) (done : Seat R W → Seat R W → Type 0) (told : Type 0) (a : List (Option (Seat R W))) (p : ℕ) (d : Option (Seat R W)) → p < length a
     → (seat after : Seat R W) → get_or a p d ≡ Some seat → Sends contents seat after → done seat after → SentAt contents done told a (set a p (Some after)) p
 sent_there contents done told a p d lt seat after at g so = inl (seat, get_or_default a p None d lt ∙ at, after, g, so, refl)
+
+-- there is no connection
+pub sent_to_none : {R W : Type 0} (contents : W → Option (List ℕ)) (done : Seat R W → Seat R W → Type 0) (told : Type 0) (a b : List (Option (Seat R W))) (p : ℕ) (d : Option (Seat R W)) → p < length a
+    → get_or a p d ≡ None → b ≡ set a p (get_or a p d) → told → SentAt contents done told a b p
+sent_to_none contents done told a b p d lt free kept is = inr (get_or_default a p None d lt ∙ free, kept ∙ set-get_or a p d, is)

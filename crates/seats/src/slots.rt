@@ -125,9 +125,11 @@ pub fn fail_slot<S: Read, W: Write>(
     ensures changes { Changes ⟦<Gathered<S> as Read>⟧.remaining W.contents slots.old slots.new [] [] }
     ensures done { DoneAt ⟦<Gathered<S> as Read>⟧.remaining (λ a b. Fails a b) ⊤ slots.old slots.new index }
 {
-    match &mut slots[index] {
-        Some(seat) if seat.end().is_none() => seat.fail(error),
-        _ => {}
+    let Some(seat) = &mut slots[index] else {
+        return;
+    };
+    if seat.end().is_none() {
+        seat.fail(error);
     }
 }
 

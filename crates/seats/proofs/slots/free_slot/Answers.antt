@@ -1,8 +1,15 @@
-use Rattle.std.proofs.Common.{[], subst, sym}
+use Rattle.std.proofs.Common.{[], None, ap, subst, sym, ◌∙◌}
 use Rattle.std.specs.Prelude.{slice_set}
+use Rattle.std.proofs.lemmas.List.{get_or_default}
 use Rattle.seats.specs.Crowds.{Changes, those_of}
 use Rattle.seats.proofs.Changing.{by_goes}
 use Rattle.seats.proofs.slots.free_slot.Goals as goal
+
+pub returns-clause-given : goal.returns-clause-given
+returns-clause-given g c = c.take.ensures.value ∙ sym (get_or_default c.args.slots.now c.args.index None c.index-slots-index.result c.requires)
+
+pub returns-clause-free : goal.returns-clause-free
+returns-clause-free g c = ap (slice_set c.args.slots.now c.args.index) c.take.ensures.after
 
 pub returns-clause-changes : goal.returns-clause-changes
 returns-clause-changes g c =

@@ -1,5 +1,5 @@
 use Rattle.std.proofs.Common.{refl}
-use Rattle.seats.proofs.Changing.{by_done, by_kept, done_there, done_to_ended}
+use Rattle.seats.proofs.Changing.{by_done, by_kept, done_there, done_to_ended, done_to_none}
 use Rattle.seats.proofs.slots.make_room_in_slot.Goals as goal
 
 pub returns-in-Some-clause-done : goal.returns-in-Some-clause-done
@@ -16,6 +16,9 @@ returns-in_default-clause-done g c =
 
 pub returns-in_default-clause-changes : goal.returns-in_default-clause-changes
 returns-in_default-clause-changes g c = by_done _ _ _ _ _ _ c.args.index c.requires (returns-in_default-clause-done g c)
+
+pub returns-in_default-2-clause-done : goal.returns-in_default-2-clause-done
+returns-in_default-2-clause-done g c = done_to_none _ _ _ c.args.slots.now _ c.args.index c.index-slots-index.result c.requires c.in_default.is refl refl
 
 pub returns-in_default-2-clause-changes : goal.returns-in_default-2-clause-changes
 returns-in_default-2-clause-changes g c = by_kept _ _ c.args.slots.now c.args.index c.index-slots-index.result

@@ -10,3 +10,9 @@ returns-in-Some-clause-opened g c = (
   refl,
   by_comes g.R.Read.remaining g.W.Write.contents c.args.slots.now c.in-Some.index None c.args.seat c.in-Some.ensures.some.0 c.in-Some.ensures.some.1 (record { none = c.requires.none; open_still = c.requires.open_still }),
 )
+
+pub bounds-slots-index : goal.bounds-slots-index
+bounds-slots-index g c = c.in-Some.ensures.some.0
+
+pub returns-in-None-clause-full : goal.returns-in-None-clause-full
+returns-in-None-clause-full g c = (refl, refl, c.in-None.ensures.none)

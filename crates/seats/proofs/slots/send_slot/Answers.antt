@@ -1,4 +1,5 @@
-use Rattle.seats.proofs.Changing.{by_kept, by_sent, sent_there}
+use Rattle.std.proofs.Common.{refl}
+use Rattle.seats.proofs.Changing.{by_kept, by_sent, sent_there, sent_to_none}
 use Rattle.seats.proofs.slots.send_slot.Goals as goal
 
 pub returns-in-Some-clause-done : goal.returns-in-Some-clause-done
@@ -8,6 +9,9 @@ returns-in-Some-clause-done g c =
 
 pub returns-in-Some-clause-changes : goal.returns-in-Some-clause-changes
 returns-in-Some-clause-changes g c = by_sent _ _ _ _ _ _ c.args.index c.requires (returns-in-Some-clause-done g c)
+
+pub returns-in-None-clause-done : goal.returns-in-None-clause-done
+returns-in-None-clause-done g c = sent_to_none _ _ _ c.args.slots.now _ c.args.index c.index-slots-index.result c.requires c.in-None.is refl refl
 
 pub returns-in-None-clause-changes : goal.returns-in-None-clause-changes
 returns-in-None-clause-changes g c = by_kept _ _ c.args.slots.now c.args.index c.index-slots-index.result
