@@ -54,7 +54,7 @@ pub enum Command<'a> {
 }
 
 /// A file to set, without its bytes. It also gives the receipt to add.
-#[derive(Clone, Copy, Debug)]
+#[derive(Clone, Copy)]
 pub struct NewFile<'a> {
     /// The receipt's number.
     pub number: u64,

@@ -2,7 +2,7 @@
 use sigv4::Allowance;
 
 /// What a key may do. Both roles may put and fetch files.
-#[derive(Clone, Copy, Debug, PartialEq, Eq)]
+#[derive(Clone, Copy, PartialEq, Eq)]
 pub enum Role {
     /// It may also give desk commands.
     Clerk,
@@ -11,7 +11,7 @@ pub enum Role {
 }
 
 /// Whether other bytes may replace those stored under a name.
-#[derive(Clone, Copy, Debug, PartialEq, Eq)]
+#[derive(Clone, Copy, PartialEq, Eq)]
 pub enum Mode {
     /// They may not.
     Keep,
@@ -20,7 +20,7 @@ pub enum Mode {
 }
 
 /// The settings of an office.
-#[derive(Clone, Copy, Debug, PartialEq, Eq)]
+#[derive(Clone, Copy, PartialEq, Eq)]
 pub struct OfficeRow {
     /// The offset of the office's clock east of UTC, in minutes: -840 to 840.
     pub east: i16,
@@ -40,7 +40,7 @@ pub struct KeyRow {
 }
 
 /// Which names a box takes. Bytes are compared.
-#[derive(Debug, Drop)]
+#[derive(Drop)]
 pub enum NameRule {
     /// All.
     Any,
@@ -51,7 +51,7 @@ pub enum NameRule {
 }
 
 /// A box, without its name.
-#[derive(Debug, Drop)]
+#[derive(Drop)]
 pub struct BoxRow {
     /// The first second at which it may be open, since 1970-01-01T00:00:00Z.
     pub opens: u64,
@@ -74,7 +74,7 @@ pub struct BoxRow {
 }
 
 /// A receipt. It is never changed or removed.
-#[derive(Debug, Drop)]
+#[derive(Drop)]
 pub struct ReceiptRow {
     /// 1, 2, 3 and so on.
     pub number: u64,
@@ -93,7 +93,7 @@ pub struct ReceiptRow {
 }
 
 /// A file, with its receipt.
-#[derive(Debug, Drop)]
+#[derive(Drop)]
 pub struct FileRow {
     /// The file's bytes.
     pub bytes: Vec<u8>,

@@ -5,7 +5,7 @@ ghost use Rattle.boxes.specs.State.{File, Place, State};
 ghost use Rattle.boxes.specs.Totals.{used, count};
 
 /// The total length of a box's files, in bytes, and their number.
-#[derive(Clone, Copy, Debug, PartialEq, Eq)]
+#[derive(Clone, Copy, PartialEq, Eq)]
 pub struct Totals {
     /// In bytes.
     pub used: u64,

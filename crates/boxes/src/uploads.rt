@@ -19,7 +19,7 @@ use sigtext::Refusal;
 use sigv4::Moment;
 
 /// What is known of the bytes of an upload.
-#[derive(Clone, Copy, Debug)]
+#[derive(Clone, Copy)]
 pub struct NewBytes {
     /// Their number.
     pub length: u64,
@@ -30,7 +30,7 @@ pub struct NewBytes {
 }
 
 /// The decision on an upload.
-#[derive(Clone, Copy, Debug)]
+#[derive(Clone, Copy)]
 pub enum Uploading<'a> {
     /// It is refused with a number from 27 to 33.
     Refused(Refusal),

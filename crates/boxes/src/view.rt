@@ -3,7 +3,7 @@ use crate::rows::{BoxRow, FileRow, KeyRow, OfficeRow, ReceiptRow};
 use crate::totals::Totals;
 
 /// What the rules of an upload read.
-#[derive(Debug, Drop)]
+#[derive(Drop)]
 pub struct UploadView {
     /// The office's settings.
     pub office: OfficeRow,
@@ -18,7 +18,7 @@ pub struct UploadView {
 }
 
 /// What the rules of a fetch read.
-#[derive(Debug, Drop)]
+#[derive(Drop)]
 pub struct FetchView {
     /// The box that the path names.
     pub in_box: Option<BoxRow>,

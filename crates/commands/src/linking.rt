@@ -52,7 +52,7 @@ impl<W: Write + Drop> KeyWork for LinkWork<'_, W> {
 }
 
 /// The parts of a link besides its path.
-#[derive(Clone, Copy, Debug)]
+#[derive(Clone, Copy)]
 pub struct Order {
     method: Method,
     start: Moment,

@@ -125,7 +125,7 @@ impl<R: Read + Drop, W: Write + Drop> OfficeWork for CompareWork<R, W> {
 }
 
 /// The kinds of lists.
-#[derive(Clone, Copy, Debug, PartialEq, Eq)]
+#[derive(Clone, Copy, PartialEq, Eq)]
 pub enum Stock {
     /// The keys.
     Keys,

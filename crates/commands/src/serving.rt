@@ -24,7 +24,7 @@ use tasks::Serve;
 use wire::{Gathered, Outbox};
 
 /// The parsed arguments of a service.
-#[derive(Clone, Copy, Debug)]
+#[derive(Clone, Copy)]
 pub struct Service<'a> {
     /// The office file.
     pub file: &'a str,

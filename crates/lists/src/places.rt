@@ -12,7 +12,7 @@ use rolls::Rolls;
 use std::alloc::Global;
 
 /// The place of a file.
-#[derive(Debug, Drop)]
+#[derive(Drop)]
 pub struct FilePlace {
     /// The name of the box.
     pub in_box: Vec<u8>,

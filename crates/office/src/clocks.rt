@@ -14,7 +14,7 @@ pub trait Clock {
 }
 
 /// A clock that stands still.
-#[derive(Clone, Copy, Debug)]
+#[derive(Clone, Copy)]
 pub struct FixedClock {
     moment: Moment,
 }
@@ -44,7 +44,7 @@ impl Clock for FixedClock {
 }
 
 /// A clock that tells the moments of a list in order and repeats the last.
-#[derive(Clone, Copy, Debug)]
+#[derive(Clone, Copy)]
 pub struct ListedClock<'a> {
     // The next moment.
     first: Moment,

@@ -59,7 +59,7 @@ pub fn replay<R: Read, W: Write>(
 }
 
 /// The answers to a connection, and how it ended.
-#[derive(Debug, Drop)]
+#[derive(Drop)]
 pub struct Replayed {
     /// All bytes that were written.
     pub answers: Vec<u8>,

@@ -11,7 +11,7 @@ const ESCAPED: AsciiSet = ascii_set!(CONTROLS.add(b' ').add(b'"').add(b'%'));
 const EMPTY: &str = "\"\"";
 
 /// Why a row has no proper answer.
-#[derive(Clone, Copy, Debug, PartialEq, Eq)]
+#[derive(Clone, Copy, PartialEq, Eq)]
 pub(crate) enum RowFault {
     /// The row has an unknown call, or a missing or malformed word.
     Malformed,
@@ -117,7 +117,7 @@ fn unescaped(alloc: Global, piece: &str) -> Result<Vec<u8>, AllocError> {
 }
 
 /// An answer: words, encoded like those of a row.
-#[derive(Debug, Drop)]
+#[derive(Drop)]
 pub(crate) struct Line {
     text: String,
 }

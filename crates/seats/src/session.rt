@@ -1,7 +1,7 @@
 //! How one connection ends.
 
 /// How a session ended.
-#[derive(Clone, Copy, Debug, PartialEq, Eq)]
+#[derive(Clone, Copy, PartialEq, Eq)]
 pub enum SessionEnd {
     /// The input ended where a message could begin.
     Ended,

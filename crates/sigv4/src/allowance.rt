@@ -8,7 +8,7 @@ use std::marker::Model;
 const MOST_SECONDS: u64 = 900;
 
 /// How many seconds early a link may begin, for senders whose clocks run ahead: 0 to 900.
-#[derive(Clone, Copy, Debug, PartialEq, Eq)]
+#[derive(Clone, Copy, PartialEq, Eq)]
 pub struct Allowance {
     seconds: u64,
 }

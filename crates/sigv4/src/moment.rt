@@ -160,7 +160,7 @@ impl Stamp {
 }
 
 /// A moment from 1970-01-01T00:00:00Z to 9999-12-31T23:59:59Z, in whole seconds.
-#[derive(Clone, Copy, Debug, PartialEq, Eq, PartialOrd, Ord)]
+#[derive(Clone, Copy, PartialEq, Eq, PartialOrd, Ord)]
 pub struct Moment {
     seconds: u64,
 }

@@ -25,7 +25,7 @@ use sqlite_schema::schema::{Schema, Table};
 use std::alloc::Global;
 
 /// The result of testing an office file for one version.
-#[derive(Clone, Copy, Debug, PartialEq, Eq)]
+#[derive(Clone, Copy, PartialEq, Eq)]
 pub enum Finding {
     /// The tables of an office that obeys every rule.
     Sound,
@@ -36,7 +36,7 @@ pub enum Finding {
 }
 
 /// The version that an office file is found to have.
-#[derive(Clone, Copy, Debug, PartialEq, Eq)]
+#[derive(Clone, Copy, PartialEq, Eq)]
 pub enum Found {
     /// The tables of an office of version 1 that obeys every rule.
     First,

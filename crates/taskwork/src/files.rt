@@ -13,7 +13,7 @@ use std::io::Write;
 use tasks::{Init, OfficeFile};
 
 /// Why an office file is opened.
-#[derive(Clone, Copy, Debug, PartialEq, Eq)]
+#[derive(Clone, Copy, PartialEq, Eq)]
 pub enum Purpose {
     /// To read. The log beside the file stays as it is.
     Look,

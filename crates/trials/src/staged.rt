@@ -41,7 +41,7 @@ pub fn source(rest: &[u8], at_once: usize) -> Source<'_> {
 }
 
 /// The result of a session.
-#[derive(Debug, Drop)]
+#[derive(Drop)]
 pub struct Left {
     text: Vec<u8>,
     end: SessionEnd,
