@@ -62,6 +62,45 @@ pub struct Book<'a, R, L: Listener> {
     of: PhantomData<L>,
 }
 
+// The lists of a book, empty.
+struct Lists {
+    events: Events,
+    ready: Vec<Event>,
+    buf: Vec<u8>,
+    peers: Vec<Peer>,
+}
+
+impl Lists {
+    // For so many slots.
+    fn new(alloc: Global, slots: usize, now: Instant) -> Result<Lists, AllocError> {
+        let sources = slots.saturating_add(1);
+        Ok(Lists {
+            events: Events::with_capacity(alloc, sources)?,
+            ready: Vec::with_capacity(alloc, sources)?,
+            buf: vec![in alloc; 0; MOST_READ]?,
+            peers: vec![in alloc; Peer::free(now); slots]?,
+        })
+    }
+}
+
+// What the turns of a book take.
+struct Turns {
+    rounds: Rounds,
+    rooms: Rooms,
+    room: Room,
+}
+
+impl Turns {
+    // For so many slots.
+    fn new(alloc: Global, slots: usize) -> Result<Turns, AllocError> {
+        Ok(Turns {
+            rounds: Rounds::with_capacity(alloc, slots)?,
+            rooms: Rooms::beside(alloc, slots)?,
+            room: Room::new(alloc)?,
+        })
+    }
+}
+
 impl<'a, R: time::Clock, L: Listener> Book<'a, R, L> {
     /// A book without connections.
     ///
@@ -80,22 +119,32 @@ impl<'a, R: time::Clock, L: Listener> Book<'a, R, L> {
         poll.registry()
             .register(&mut SourceFd(&fd), LISTENER, Interest::READABLE)?;
         let now = Instant::now(rt)?;
-        let sources = limits.open.saturating_add(1);
+        let Turns {
+            rounds,
+            rooms,
+            room,
+        } = Turns::new(alloc, limits.open)?;
+        let Lists {
+            events,
+            ready,
+            buf,
+            peers,
+        } = Lists::new(alloc, limits.open, now)?;
         Ok(Book {
             rt,
             alloc,
             patience: limits.patience,
             poll,
-            events: Events::with_capacity(alloc, sources)?,
-            ready: Vec::with_capacity(alloc, sources)?,
-            buf: vec![in alloc; 0; MOST_READ]?,
-            peers: vec![in alloc; Peer::free(now); limits.open]?,
+            events,
+            ready,
+            buf,
+            peers,
             taken: 0,
-            rounds: Rounds::with_capacity(alloc, limits.open)?,
-            rooms: Rooms::beside(alloc, limits.open)?,
+            rounds,
+            rooms,
             door: Door::new(),
             stage: Stage::Turns,
-            room: Some(Room::new(alloc)?),
+            room: Some(room),
             turned: None,
             now,
             looked: now,
