@@ -23,15 +23,7 @@ is_built() {
     [ -z "$(find "${folders[@]}" HANDLES crates.txt -newer crates/drop/out/drop 2>/dev/null)" ]
 }
 
-# Makes sure that mimalloc is installed, if that is possible: the proofs then take a tenth less time.
-with_mimalloc() {
-    if [[ $(/sbin/ldconfig -p) == *libmimalloc.so* ]]; then return; fi
-    [ "$(id -u)" -eq 0 ] && command -v apt-get >/dev/null || return 0
-    (apt-get update && apt-get install -y --no-install-recommends libmimalloc2.0) >/dev/null 2>&1 || true
-}
-
 if ! is_built; then
-    with_mimalloc
     python3 -B ci/prove.py --program drop
 fi
 cd crates/drop

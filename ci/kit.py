@@ -2,7 +2,6 @@
 
 import atexit
 import concurrent.futures
-import ctypes.util
 import dataclasses
 import functools
 import importlib.machinery
@@ -27,13 +26,10 @@ def toolchain():
 
 
 def rt():
-    """The command `rt` as a module. Its checks get mimalloc, if it is installed: they then take a tenth less time."""
+    """The command `rt` as a module."""
     loader = importlib.machinery.SourceFileLoader("rt", str(toolchain() / "bin" / "rt"))
     module = importlib.util.module_from_spec(importlib.util.spec_from_loader("rt", loader))
     loader.exec_module(module)
-    allocator, guarded = ctypes.util.find_library("mimalloc"), module.rtlib.guarded
-    if allocator:
-        module.rtlib.guarded = lambda: [*guarded(), "env", f"LD_PRELOAD={allocator}"]
     return module
 
 

@@ -79,7 +79,6 @@ with_command systemd-analyze systemd
 with_command chromium
 with_command chromedriver chromium-driver
 with_command aws awscli
-[[ $(/sbin/ldconfig -p) == *libmimalloc.so* ]] || install libmimalloc2.0
 with_command debootstrap
 with_command lintian
 with_command man man-db
