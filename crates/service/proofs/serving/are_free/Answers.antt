@@ -1,5 +1,6 @@
-use Rattle.std.proofs.Common.{◌≡◌, ◌<◌, ◌∙◌, None, Some, length, sym, arith}
-use Rattle.std.proofs.lemmas.List.{get_or_default}
+use Rattle.std.proofs.Common.{◌≡◌, ◌<◌, ◌≤◌, ◌∙◌, ⊎_elim, None, Some, length, sym, arith}
+use Rattle.std.proofs.lemmas.Bool.{cases_lt}
+use Rattle.std.proofs.lemmas.List.{get_or_default, get_or_past}
 use Rattle.seats.specs.Crowds.{slot_at}
 use Rattle.service.proofs.Below.{up_to}
 use Rattle.service.proofs.serving.are_free.Goals as goal
@@ -16,3 +17,10 @@ slots-preserved g c =
     let within : c.slots.index < length c.args.slots.now = omega (arith, c.slots-test.true) in
     let at = get_or_default c.args.slots.now c.slots.index None c.index-slots-index.result within in
     up_to (λ p. slot_at c.args.slots.now p ≡ None) c.slots.index c.slots.invariant (at ∙ (sym c.index-slots-index.is ∙ c.in-None.is))
+
+pub returns-clause-told : goal.returns-clause-told
+returns-clause-told g c _ p =
+    ⊎_elim
+    (λ (lt : p < c.slots.index). c.slots.invariant p lt)
+    (λ (ge : c.slots.index ≤ p). get_or_past c.args.slots.now p None (omega (arith, c.slots-test.false, ge)))
+    (cases_lt p c.slots.index)
