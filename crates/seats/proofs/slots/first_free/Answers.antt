@@ -13,10 +13,10 @@ pub slots-preserved : goal.slots-preserved
 slots-preserved g c =
     let here = content c.args.slots.now c.slots.index c.index-slots-index.result c.slots-test.true c.index-slots-index.is in
     λ p lt free.
-        ⊎_elim
-        (λ (e : p ≡ c.slots.index). not_none c.index-slots-index.result c.if-is_none.ensures (sym here ∙ ap (slot_at c.args.slots.now) (sym e) ∙ free))
-        (λ (ne : p ≡ c.slots.index → ⊥). c.slots.invariant p (omega (arith, lt, ne)) free)
-        (cases_eq p c.slots.index)
+    ⊎_elim
+    (λ (e : p ≡ c.slots.index). not_none c.index-slots-index.result c.if-is_none.ensures (sym here ∙ ap (slot_at c.args.slots.now) (sym e) ∙ free))
+    (λ (ne : p ≡ c.slots.index → ⊥). c.slots.invariant p (omega (arith, lt, ne)) free)
+    (cases_eq p c.slots.index)
 
 pub returns-then-is_none-clause-some : goal.returns-then-is_none-clause-some
 returns-then-is_none-clause-some g c =
