@@ -11,6 +11,11 @@ use Rattle.manifests.specs.declared.list_fault.ListFault.{ListFault}
 use Rattle.manifests.specs.declared.list_fault.ListFault.TheVariants as fault
 
 module _ {T : Type 0} where
+  -- an answering fault
+  pub passed_answering : (r : Result T ListFault) (e : ListFault) → IsErrAnd r (λ f. f ≡ e) → IsOfAnswering e → IfErr r IsOfAnswering
+  passed_answering (Ok x) e same h = tt
+  passed_answering (Err y) e same h = subst IsOfAnswering (sym same) h
+
   -- an answering fault is one of a list
   pub passed_fault : (r : Result T ListFault) (e : ListFault) → IsErrAnd r (λ f. f ≡ e) → IsOfAnswering e → IfErr r IsOfManifest
   passed_fault (Ok x) e same h = tt
