@@ -5,3 +5,4 @@ pub mod LimitedBoxes
 pub mod Walked
 pub mod ToldLines
 pub mod Texts
+pub mod Passed

@@ -1,5 +1,5 @@
 use Rattle.std.proofs.Common.{◌∙◌, map, ap, subst}
-use Rattle.manifests.specs.Asking.{stays_joined, stays_ok, stays_unasked}
+use Rattle.manifests.specs.Asking.{stays_err, stays_joined, stays_ok, stays_unasked}
 use Rattle.manifests.proofs.ReceiptLines.{map_push}
 use Rattle.lists.specs.Keys.{IsLast}
 use Rattle.lists.proofs.LimitedBoxes.{told_all, told_first, told_next}
@@ -30,3 +30,36 @@ boxes-preserved g c = record {
       told_next s c.args.id.now c.last_of.result.now c.in-Ok-Some.next.items last boxes _ told next
       (ap (map (λ b. b.items)) c.in-Ok.ensures.items ∙ map_push (λ b. b.items) c.boxes.boxes.items c.in-Ok-Some.next) is;
 }
+
+pub returns-in-Ok-None-clause-stays : goal.returns-in-Ok-None-clause-stays
+returns-in-Ok-None-clause-stays g c = stays_joined _ _ _ _ c.boxes.invariant.stays (stays_ok _ _ _ c.in-Ok-None.ensures.rest)
+
+pub returns-in-Ok-None-clause-fault : goal.returns-in-Ok-None-clause-fault
+returns-in-Ok-None-clause-fault g c = tt
+
+pub returns-in-Err-clause-value : goal.returns-in-Err-clause-value
+returns-in-Err-clause-value g c = λ s meant. tt
+
+pub returns-in-Err-clause-stays : goal.returns-in-Err-clause-stays
+returns-in-Err-clause-stays g c = stays_joined _ _ _ _ c.boxes.invariant.stays (stays_err _ _ _ c.in-Err.ensures.rest)
+
+pub returns-in-Err-clause-fault : goal.returns-in-Err-clause-fault
+returns-in-Err-clause-fault g c = tt
+
+pub returns-in_default-clause-value : goal.returns-in_default-clause-value
+returns-in_default-clause-value g c = λ s meant. tt
+
+pub returns-in_default-clause-stays : goal.returns-in_default-clause-stays
+returns-in_default-clause-stays g c = stays_joined _ _ _ _ c.boxes.invariant.stays (stays_ok _ _ _ c.in-Ok-Some.ensures.rest)
+
+pub returns-in_default-clause-fault : goal.returns-in_default-clause-fault
+returns-in_default-clause-fault g c = tt
+
+pub returns-clause-value : goal.returns-clause-value
+returns-clause-value g c = λ s meant. tt
+
+pub returns-clause-stays : goal.returns-clause-stays
+returns-clause-stays g c = c.boxes.invariant.stays
+
+pub returns-clause-fault : goal.returns-clause-fault
+returns-clause-fault g c = tt

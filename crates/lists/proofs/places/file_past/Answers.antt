@@ -1,7 +1,7 @@
 use Rattle.std.proofs.Common.{[], Some, None, subst}
 use Rattle.sigtext.specs.Bytes.{bytes_cmp}
 use Rattle.rolls.specs.Next.{IsBox, IsFileIn, IsNext}
-use Rattle.manifests.specs.Asking.{stays_joined, stays_ok}
+use Rattle.manifests.specs.Asking.{stays_err, stays_joined, stays_ok, stays_unasked}
 use Rattle.lists.proofs.NextFiles.{past_ends, past_found, past_moves}
 use Rattle.lists.proofs.places.file_past.Goals as goal
 
@@ -35,3 +35,51 @@ boxes-preserved g c = record {
       (subst (λ t. IsNext bytes_cmp (IsBox s) t (Some c.in-Ok-Some.next.items)) c.deref.ensures.value next)
       (subst (λ t. IsNext bytes_cmp (IsFileIn s t) [] None) c.deref-in-boxes.ensures.value none);
 }
+
+pub returns-in_default-clause-value : goal.returns-in_default-clause-value
+returns-in_default-clause-value g c = λ s meant. tt
+
+pub returns-in_default-clause-stays : goal.returns-in_default-clause-stays
+returns-in_default-clause-stays g c = stays_unasked _
+
+pub returns-in_default-clause-fault : goal.returns-in_default-clause-fault
+returns-in_default-clause-fault g c = tt
+
+pub returns-in-Ok-None-clause-stays : goal.returns-in-Ok-None-clause-stays
+returns-in-Ok-None-clause-stays g c = stays_joined _ _ _ _ c.boxes.invariant.stays (stays_ok _ _ _ c.in-Ok-None.ensures.rest)
+
+pub returns-in-Ok-None-clause-fault : goal.returns-in-Ok-None-clause-fault
+returns-in-Ok-None-clause-fault g c = tt
+
+pub returns-in-Err-clause-value : goal.returns-in-Err-clause-value
+returns-in-Err-clause-value g c = λ s meant. tt
+
+pub returns-in-Err-clause-stays : goal.returns-in-Err-clause-stays
+returns-in-Err-clause-stays g c = stays_joined _ _ _ _ c.boxes.invariant.stays (stays_err _ _ _ c.in-Err.ensures.rest)
+
+pub returns-in-Err-clause-fault : goal.returns-in-Err-clause-fault
+returns-in-Err-clause-fault g c = tt
+
+pub returns-in-Ok-Some-file_after-clause-stays : goal.returns-in-Ok-Some-file_after-clause-stays
+returns-in-Ok-Some-file_after-clause-stays g c = stays_joined _ _ _ _ (stays_joined _ _ _ _ c.boxes.invariant.stays (stays_ok _ _ _ c.in-Ok-Some.ensures.rest)) (stays_ok _ _ _ c.in-Ok-Some-file_after.ensures.rest)
+
+pub returns-in-Ok-Some-file_after-clause-fault : goal.returns-in-Ok-Some-file_after-clause-fault
+returns-in-Ok-Some-file_after-clause-fault g c = tt
+
+pub returns-in-Err-file_after-clause-value : goal.returns-in-Err-file_after-clause-value
+returns-in-Err-file_after-clause-value g c = λ s meant. tt
+
+pub returns-in-Err-file_after-clause-stays : goal.returns-in-Err-file_after-clause-stays
+returns-in-Err-file_after-clause-stays g c = stays_joined _ _ _ _ (stays_joined _ _ _ _ c.boxes.invariant.stays (stays_ok _ _ _ c.in-Ok-Some.ensures.rest)) (stays_err _ _ _ c.in-Err-file_after.ensures.rest)
+
+pub returns-in-Err-file_after-clause-fault : goal.returns-in-Err-file_after-clause-fault
+returns-in-Err-file_after-clause-fault g c = tt
+
+pub returns-clause-value : goal.returns-clause-value
+returns-clause-value g c = λ s meant. tt
+
+pub returns-clause-stays : goal.returns-clause-stays
+returns-clause-stays g c = c.boxes.invariant.stays
+
+pub returns-clause-fault : goal.returns-clause-fault
+returns-clause-fault g c = tt

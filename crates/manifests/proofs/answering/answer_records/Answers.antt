@@ -94,3 +94,36 @@ records-preserved g c =
             ),
       );
     }
+
+pub returns-in_default-clause-stays : goal.returns-in_default-clause-stays
+returns-in_default-clause-stays g c = g.met.A.Answerer.joins _ _ _ _ c.records.invariant.stays (subst (λ r. g.A.Answerer.stays c.records.answerer c.answer.new.self (by_keeper r)) c.in_ok-text.was c.answer.ensures.stays)
+
+pub returns-in_default-clause-reads : goal.returns-in_default-clause-reads
+returns-in_default-clause-reads g c = record { err = tt; ok = c.in_ok-next_record.ensures.reads.ok }
+
+pub returns-in_default-clause-count : goal.returns-in_default-clause-count
+returns-in_default-clause-count g c = record { err = tt; ok = c.records.invariant.count }
+
+pub returns-in_err-send_text-clause-stays : goal.returns-in_err-send_text-clause-stays
+returns-in_err-send_text-clause-stays g c =
+    let told = err_from_is_err_and c.from_residual-in_err-send_text.result c.from_residual-in_err-send_text.ensures.1 in
+    rw told.1 (rw (told.2 ∙ c.in_err-send_text.ensures.fault) (g.met.A.Answerer.joins _ _ _ _ c.records.invariant.stays (subst (λ r. g.A.Answerer.stays c.records.answerer c.answer.new.self (by_keeper r)) c.in_ok-text.was c.answer.ensures.stays)))
+
+pub returns-in_err-send_text-clause-reads : goal.returns-in_err-send_text-clause-reads
+returns-in_err-send_text-clause-reads g c =
+    let told = err_from_is_err_and c.from_residual-in_err-send_text.result c.from_residual-in_err-send_text.ensures.1 in
+    rw told.1 (rw (told.2 ∙ c.in_err-send_text.ensures.fault) (record { err = tt; ok = c.in_ok-next_record.ensures.reads.ok }))
+
+pub returns-in_err-send_text-clause-count : goal.returns-in_err-send_text-clause-count
+returns-in_err-send_text-clause-count g c =
+    let told = err_from_is_err_and c.from_residual-in_err-send_text.result c.from_residual-in_err-send_text.ensures.1 in
+    rw told.1 (rw told.2 (rw c.records.invariant.count at c.in_err-send_text.ensures.count))
+
+pub returns-clause-stays : goal.returns-clause-stays
+returns-clause-stays g c = c.records.invariant.stays
+
+pub returns-clause-reads : goal.returns-clause-reads
+returns-clause-reads g c = record { err = tt; ok = c.records.invariant.sound }
+
+pub returns-clause-count : goal.returns-clause-count
+returns-clause-count g c = record { err = tt; ok = c.records.invariant.count }
