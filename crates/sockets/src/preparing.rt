@@ -11,7 +11,7 @@ use std::time::Duration;
 use std::{io, time};
 
 /// The limits on connections.
-#[derive(Clone, Copy, Debug, PartialEq, Eq)]
+#[derive(Clone, Copy, PartialEq, Eq)]
 pub struct Limits {
     /// The most connections that are accepted in all, including those that fail.
     pub connections: u64,
