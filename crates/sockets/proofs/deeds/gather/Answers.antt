@@ -3,6 +3,9 @@ use Rattle.std.proofs.lemmas.List.{length-take}
 use Rattle.sockets.proofs.Told.{reads_so}
 use Rattle.sockets.proofs.deeds.gather.Goals as goal
 
+pub slice_bounds-gather_slot-end-2 : goal.slice_bounds-gather_slot-end-2
+slice_bounds-gather_slot-end-2 g c = omega (arith, length-take c.min-size.result c.args.buf.now)
+
 pub returns-clause-done : goal.returns-clause-done
 returns-clause-done g c =
     reads_so _ _ c.gather_slot-outcome.result _ _ _ _ c.ahead_len-before.result c.ahead_len.result c.args.slots.now c.gather_slot-outcome.new.slots c.args.index c.requires

@@ -1,6 +1,12 @@
 use Rattle.std.proofs.Common.{None, ◌∙◌, sym}
 use Rattle.std.proofs.lemmas.List.{get_or_default}
+use Rattle.sockets.proofs.Slotted.{if_there}
 use Rattle.sockets.proofs.deeds.is_through_at.Goals as goal
+
+pub returns-in-Some-clause-told : goal.returns-in-Some-clause-told
+returns-in-Some-clause-told g c through =
+    let at = get_or_default c.args.slots.now c.args.index None c.index-slots-index.result c.requires ∙ (sym c.index-slots-index.is ∙ c.in-Some.is) in
+    if_there _ c.in-Some.seat _ at (c.is_through.ensures.0 through)
 
 pub returns-in-Some-clause-busy : goal.returns-in-Some-clause-busy
 returns-in-Some-clause-busy g c = λ no. (

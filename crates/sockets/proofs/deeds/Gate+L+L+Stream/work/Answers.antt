@@ -1,9 +1,13 @@
+use Rattle.std.proofs.Common.{inl, refl, arith}
 use Rattle.std.specs.Prelude.{length}
 use Rattle.sockets.proofs.Moved.{moves_none, moves_still}
 use Rattle.sockets.proofs.deeds.Gate+L+L+Stream.work.Goals as goal
 
 pub returns-then-index-slots-clause-moves : goal.returns-then-index-slots-clause-moves
 returns-then-index-slots-clause-moves g c = moves_none _ _ _ _ c.args.self.now c.args.slots.now
+
+pub returns-then-index-slots-clause-does : goal.returns-then-index-slots-clause-does
+returns-then-index-slots-clause-does g c = (refl, inl (omega (arith, c.if-index-slots.true)))
 
 pub returns-in-Gather-clause-moves : goal.returns-in-Gather-clause-moves
 returns-in-Gather-clause-moves g c = moves_still _ _ _ _ c.args.self.now c.args.slots.now c.gather-outcome.new.slots c.gather-outcome.ensures.changes
@@ -19,6 +23,9 @@ returns-in-Reserve-clause-does g c = rw c.in-Reserve.is c.make_room_in_slot.ensu
 
 pub returns-in-Settle-clause-moves : goal.returns-in-Settle-clause-moves
 returns-in-Settle-clause-moves g c = moves_still _ _ _ _ c.args.self.now c.args.slots.now c.settle_slot.new.slots c.settle_slot.ensures.changes
+
+pub returns-in-Settle-clause-does : goal.returns-in-Settle-clause-does
+returns-in-Settle-clause-does g c = rw c.in-Settle.is c.settle_slot.ensures.done
 
 pub returns-in-Fail-clause-moves : goal.returns-in-Fail-clause-moves
 returns-in-Fail-clause-moves g c = moves_still _ _ _ _ c.args.self.now c.args.slots.now c.fail_slot.new.slots c.fail_slot.ensures.changes

@@ -20,6 +20,12 @@ returns-in-Turn-clause-changes g c came gone met =
           (omega (arith, c.if-self-gt0.true, c.go.ensures.turns, c.steps.invariant.1)) gave,
     )
 
+pub returns-in-Turn-clause-within : goal.returns-in-Turn-clause-within
+returns-in-Turn-clause-within g c = (c.is_open_at.ensures c.if-is_open_at.true).0
+
+pub returns-in-Turn-clause-due : goal.returns-in-Turn-clause-due
+returns-in-Turn-clause-due g c = c.is_open_at.ensures c.if-is_open_at.true
+
 pub returns-in-Over-clause-changes : goal.returns-in-Over-clause-changes
 returns-in-Over-clause-changes g c came gone met =
     let all = moves_then _ _ _ _ c.args.self.now.gate c.steps.self.gate c.go.new.self.gate c.args.slots.now c.steps.slots c.go.new.slots c.steps.invariant.0 c.go.ensures.moves in
