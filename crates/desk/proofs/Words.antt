@@ -53,9 +53,19 @@ word_lacks test n text c barred word k d within here =
     let passes : test (get_or text k d) ≡ true = AllPass-from_list_all test text word.each k d within in
     cc
 
+-- a text that is the word of neither role
+pub no_role : (text : List ℕ) → (text ≡ codes "clerk" → ⊥) → (text ≡ codes "link" → ⊥) → (r : Role) → text ≡ role_word r → ⊥
+no_role text clerk link role.Clerk is = clerk is
+no_role text clerk link role.Link is = link is
+
 pub role_lacks_space : (r : Role) → Lacks 32 (role_word r)
 role_lacks_space role.Clerk = word_lacks is_ascii_lowercase 5 (codes "clerk") 32 refl (record { some = omega arith; short = omega arith; each = refl })
 role_lacks_space role.Link = word_lacks is_ascii_lowercase 4 (codes "link") 32 refl (record { some = omega arith; short = omega arith; each = refl })
+
+-- a text that is the word of neither mode
+pub no_mode : (text : List ℕ) → (text ≡ codes "keep" → ⊥) → (text ≡ codes "replace" → ⊥) → (m : Mode) → text ≡ mode_word m → ⊥
+no_mode text keep replace mode.Keep is = keep is
+no_mode text keep replace mode.Replace is = replace is
 
 pub mode_lacks_space : (m : Mode) → Lacks 32 (mode_word m)
 mode_lacks_space mode.Keep = word_lacks is_ascii_lowercase 4 (codes "keep") 32 refl (record { some = omega arith; short = omega arith; each = refl })

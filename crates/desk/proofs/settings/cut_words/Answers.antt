@@ -73,3 +73,27 @@ returns-clause-all c opens closes days from to quota max_files mode rule l1 l2 l
     let max_files_cut = cut_once 32 c.in_ok-quota.rest.now c.in_ok-max_files.max_files.now c.in_ok-max_files.rest.now max_files (mode ++ 32 ∷ rule) c.in_ok-max_files.ensures l7 quota_cut.1 in
     let mode_cut = cut_once 32 c.in_ok-max_files.rest.now c.in_ok-mode.mode.now c.in_ok-mode.rule.now mode rule c.in_ok-mode.ensures l8 max_files_cut.1 in
     λ i. Some (opens_cut.0 i ∷ closes_cut.0 i ∷ days_cut.0 i ∷ from_cut.0 i ∷ to_cut.0 i ∷ quota_cut.0 i ∷ max_files_cut.0 i ∷ mode_cut.0 i ∷ mode_cut.1 i ∷ [])
+
+pub returns-in_err-opens-clause-some : goal.returns-in_err-opens-clause-some
+returns-in_err-opens-clause-some c = rw c.from_residual.ensures tt
+
+pub returns-in_err-closes-clause-some : goal.returns-in_err-closes-clause-some
+returns-in_err-closes-clause-some c = rw c.from_residual-in_err-closes.ensures tt
+
+pub returns-in_err-days-clause-some : goal.returns-in_err-days-clause-some
+returns-in_err-days-clause-some c = rw c.from_residual-in_err-days.ensures tt
+
+pub returns-in_err-from-clause-some : goal.returns-in_err-from-clause-some
+returns-in_err-from-clause-some c = rw c.from_residual-in_err-from.ensures tt
+
+pub returns-in_err-to-clause-some : goal.returns-in_err-to-clause-some
+returns-in_err-to-clause-some c = rw c.from_residual-in_err-to.ensures tt
+
+pub returns-in_err-quota-clause-some : goal.returns-in_err-quota-clause-some
+returns-in_err-quota-clause-some c = rw c.from_residual-in_err-quota.ensures tt
+
+pub returns-in_err-max_files-clause-some : goal.returns-in_err-max_files-clause-some
+returns-in_err-max_files-clause-some c = rw c.from_residual-in_err-max_files.ensures tt
+
+pub returns-in_err-mode-clause-some : goal.returns-in_err-mode-clause-some
+returns-in_err-mode-clause-some c = rw c.from_residual-in_err-mode.ensures tt

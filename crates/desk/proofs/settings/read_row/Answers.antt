@@ -34,3 +34,75 @@ returns-clause-all c b says are =
       mode = mode i;
       rule = AnyName;
     })
+
+pub read_moment-requires : goal.read_moment-requires
+read_moment-requires c = tt
+
+pub returns-in_err-read_moment-clause-some : goal.returns-in_err-read_moment-clause-some
+returns-in_err-read_moment-clause-some c = rw c.from_residual.ensures tt
+
+pub seconds-opens-requires : goal.seconds-opens-requires
+seconds-opens-requires c = tt
+
+pub read_moment-requires-2 : goal.read_moment-requires-2
+read_moment-requires-2 c = tt
+
+pub returns-in_err-read_moment-2-clause-some : goal.returns-in_err-read_moment-2-clause-some
+returns-in_err-read_moment-2-clause-some c = rw c.from_residual-in_err-read_moment-2.ensures tt
+
+pub seconds-closes-requires : goal.seconds-closes-requires
+seconds-closes-requires c = tt
+
+pub read_days-requires : goal.read_days-requires
+read_days-requires c = tt
+
+pub returns-in_err-days-clause-some : goal.returns-in_err-days-clause-some
+returns-in_err-days-clause-some c = rw c.from_residual-in_err-days.ensures tt
+
+pub returns-in_err-days-clause-all : goal.returns-in_err-days-clause-all
+returns-in_err-days-clause-all c = λ b says are. absurd (c.in_err-days.ensures.none b.days are.week says.days)
+
+pub read_minute-requires : goal.read_minute-requires
+read_minute-requires c = tt
+
+pub returns-in_err-from_minute-clause-some : goal.returns-in_err-from_minute-clause-some
+returns-in_err-from_minute-clause-some c = rw c.from_residual-in_err-from_minute.ensures tt
+
+pub returns-in_err-from_minute-clause-all : goal.returns-in_err-from_minute-clause-all
+returns-in_err-from_minute-clause-all c = λ b says are. absurd (c.in_err-from_minute.ensures.none b.from_minute (omega (arith, are.hours, are.day)) says.from_minute)
+
+pub read_minute-requires-2 : goal.read_minute-requires-2
+read_minute-requires-2 c = tt
+
+pub returns-in_err-to_minute-clause-some : goal.returns-in_err-to_minute-clause-some
+returns-in_err-to_minute-clause-some c = rw c.from_residual-in_err-to_minute.ensures tt
+
+pub returns-in_err-to_minute-clause-all : goal.returns-in_err-to_minute-clause-all
+returns-in_err-to_minute-clause-all c = λ b says are. absurd (c.in_err-to_minute.ensures.none b.to_minute (omega (arith, are.day)) says.to_minute)
+
+pub read_number-requires : goal.read_number-requires
+read_number-requires c = tt
+
+pub returns-in_err-quota-clause-some : goal.returns-in_err-quota-clause-some
+returns-in_err-quota-clause-some c = rw c.from_residual-in_err-quota.ensures tt
+
+pub returns-in_err-quota-clause-all : goal.returns-in_err-quota-clause-all
+returns-in_err-quota-clause-all c = λ b says are. absurd (c.in_err-quota.ensures.none b.quota says.quota)
+
+pub read_number-requires-2 : goal.read_number-requires-2
+read_number-requires-2 c = tt
+
+pub returns-in_err-max_files-clause-some : goal.returns-in_err-max_files-clause-some
+returns-in_err-max_files-clause-some c = rw c.from_residual-in_err-max_files.ensures tt
+
+pub returns-in_err-max_files-clause-all : goal.returns-in_err-max_files-clause-all
+returns-in_err-max_files-clause-all c = λ b says are. absurd (c.in_err-max_files.ensures.none b.max_files says.max_files)
+
+pub read_mode-requires : goal.read_mode-requires
+read_mode-requires c = tt
+
+pub returns-in_err-mode-clause-some : goal.returns-in_err-mode-clause-some
+returns-in_err-mode-clause-some c = rw c.from_residual-in_err-mode.ensures tt
+
+pub returns-in_err-mode-clause-all : goal.returns-in_err-mode-clause-all
+returns-in_err-mode-clause-all c = λ b says are. absurd (c.in_err-mode.ensures.none b.mode says.mode)

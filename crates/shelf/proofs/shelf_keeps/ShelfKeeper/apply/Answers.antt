@@ -35,3 +35,24 @@ returns-in-SetFile-clause-crash c s after h sound change honest =
 pub returns-in-Desk-clause-crash : goal.returns-in-Desk-clause-crash
 returns-in-Desk-clause-crash c s after h sound change honest =
     on_err_weaker c.obey.result (λ now. record { either = λ t l. inr (inl (one_state c.obey.new.self t s l now)); whole = λ whole. tt }) (c.obey.ensures.same s h)
+
+pub returns-in-SetFile-clause-count : goal.returns-in-SetFile-clause-count
+returns-in-SetFile-clause-count c = c.set_staged.ensures.count
+
+pub returns-in-SetFile-clause-same : goal.returns-in-SetFile-clause-same
+returns-in-SetFile-clause-same c = c.set_staged.ensures.same
+
+pub returns-in-SetFile-clause-honest : goal.returns-in-SetFile-clause-honest
+returns-in-SetFile-clause-honest c = λ h. tt
+
+pub returns-in-Desk-clause-count : goal.returns-in-Desk-clause-count
+returns-in-Desk-clause-count c = c.obey.ensures.count
+
+pub returns-in-Desk-clause-same : goal.returns-in-Desk-clause-same
+returns-in-Desk-clause-same c = c.obey.ensures.same
+
+pub returns-in-Desk-clause-honest : goal.returns-in-Desk-clause-honest
+returns-in-Desk-clause-honest c = λ h. tt
+
+pub returns-in-Desk-clause-made : goal.returns-in-Desk-clause-made
+returns-in-Desk-clause-made c s after h sound change = c.obey.ensures.made s after h sound (subst (λ x. IsChangeOf (λ bytes. c.args.self.now.staged.items ≡ bytes) s x after) c.in-Desk.is change)
