@@ -1,6 +1,6 @@
 //! All answers of a keeper, as one text.
 use crate::published::ID;
-use boxes::{FileRow, KeyRow, ReceiptRow};
+use boxes::{BoxRow, FileRow, KeyRow, Mode, NameRule, ReceiptRow, Role};
 use keeper::Keeper;
 use std::alloc::Global;
 use std::test::Fail;
@@ -27,7 +27,12 @@ const FILES: [&[u8]; 7] = [
 
 fn put_key(text: &mut Vec<u8>, alloc: Global, key: Option<KeyRow>) -> Result<(), Fail> {
     if let Some(key) = key {
-        let line = format!(in alloc; "key {:?} {} ", key.role, key.revoked)?;
+        let role = if key.role == Role::Clerk {
+            "clerk"
+        } else {
+            "link"
+        };
+        let line = format!(in alloc; "key {role} {} ", key.revoked)?;
         text.extend_from_slice(line.as_bytes())?;
         text.extend_from_slice(&key.secret)?;
     }
@@ -35,10 +40,20 @@ fn put_key(text: &mut Vec<u8>, alloc: Global, key: Option<KeyRow>) -> Result<(),
     Ok(())
 }
 
-fn put_receipt(text: &mut Vec<u8>, alloc: Global, receipt: &ReceiptRow) -> Result<(), Fail> {
-    let line = format!(in alloc; "{receipt:?}\n")?;
-    text.extend_from_slice(line.as_bytes())?;
+fn put_line(text: &mut Vec<u8>, bytes: &[u8]) -> Result<(), Fail> {
+    text.extend_from_slice(bytes)?;
+    text.push(b'\n')?;
     Ok(())
+}
+
+fn put_receipt(text: &mut Vec<u8>, alloc: Global, receipt: &ReceiptRow) -> Result<(), Fail> {
+    let (number, size, moment) = (receipt.number, receipt.size, receipt.moment);
+    let line = format!(in alloc; "{number} {size} {moment}")?;
+    put_line(text, line.as_bytes())?;
+    put_line(text, &receipt.in_box)?;
+    put_line(text, &receipt.name)?;
+    put_line(text, &receipt.digest)?;
+    put_line(text, &receipt.key)
 }
 
 fn put_file(text: &mut Vec<u8>, alloc: Global, file: Option<FileRow>) -> Result<(), Fail> {
@@ -69,12 +84,42 @@ fn put_limits<K: Keeper>(text: &mut Vec<u8>, alloc: Global, keeper: &mut K) -> R
     Ok(())
 }
 
+fn put_rule(text: &mut Vec<u8>, rule: &NameRule) -> Result<(), Fail> {
+    match rule {
+        NameRule::Any => put_line(text, b"any"),
+        NameRule::Begins(beginning) => {
+            put_line(text, b"begins")?;
+            put_line(text, beginning)
+        }
+        NameRule::Ends(endings) => {
+            put_line(text, b"ends")?;
+            for ending in endings {
+                put_line(text, ending)?;
+            }
+            Ok(())
+        }
+    }
+}
+
+fn put_box(text: &mut Vec<u8>, alloc: Global, row: &BoxRow) -> Result<(), Fail> {
+    let (opens, closes, from, to) = (row.opens, row.closes, row.from_minute, row.to_minute);
+    let (quota, files, keeps) = (row.quota, row.max_files, row.mode == Mode::Keep);
+    let line = format!(in alloc; "{opens} {closes} {from} {to} {quota} {files} {keeps}")?;
+    put_line(text, line.as_bytes())?;
+    for day in row.days {
+        text.push(b'0' + u8::from(day))?;
+    }
+    put_rule(text, &row.rule)
+}
+
 fn put_boxes<K: Keeper>(text: &mut Vec<u8>, alloc: Global, keeper: &mut K) -> Result<(), Fail> {
     for name in BOXES {
-        let row = keeper.box_row(name)?;
+        if let Some(row) = keeper.box_row(name)? {
+            put_box(text, alloc, &row)?;
+        }
         let sizes = keeper.sizes(name)?;
-        let line = format!(in alloc; "{row:?} {} {}\n", sizes.used, sizes.count)?;
-        text.extend_from_slice(line.as_bytes())?;
+        let line = format!(in alloc; "box {} {}", sizes.used, sizes.count)?;
+        put_line(text, line.as_bytes())?;
     }
     Ok(())
 }
