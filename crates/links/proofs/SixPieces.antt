@@ -1,5 +1,5 @@
 -- Pieces of a text that were written one after another.
-use Rattle.std.proofs.Common.{◌≡◌, ℕ, ◌-◌, List, [], ◌++◌, length, take, drop, ap, ◌∙◌, arith, append_assoc, length-append}
+use Rattle.std.proofs.Common.{◌≡◌, ◌≤◌, ℕ, ◌-◌, List, [], ◌++◌, length, take, drop, ap, ◌∙◌, arith, append_assoc, length-append}
 use Rattle.std.proofs.Math.Seq.{drop-append_seam, take-append_seam}
 use Rattle.links.specs.SixValues.{between}
 
@@ -25,6 +25,10 @@ piece_first piece mid rest whole j end here there =
 
 piece_last : (front piece whole : List ℕ) (i : ℕ) → i ≡ length front → whole ≡ front ++ piece → drop i whole ≡ piece
 piece_last front piece whole i start there = ap (λ (n : ℕ). drop n whole) start ∙ ap (drop (length front)) there ∙ drop-append_seam front piece
+
+-- a text ends where it ended before a piece was written after it, or later
+pub end_ascends : (front piece mid : List ℕ) (i j : ℕ) → i ≡ length front → j ≡ length mid → mid ≡ front ++ piece → i ≤ j
+end_ascends front piece mid i j start end here = omega (arith, start, end, ap length here, length-append front piece)
 
 -- six pieces, and the end of each except the last
 pub record AreSixPieces (a b d e h s whole : List ℕ) (i j k l m : ℕ) : Type 0 where

@@ -12,6 +12,7 @@ use Rattle.links.specs.LinkReadings.{IsAskedBy}
 use Rattle.sigtext.specs.Target.{Param, IsTargetOf}
 use Rattle.links.specs.Forms.{IsHexDigest}
 use Rattle.links.specs.SixValues.{SixRule, HaveNames, texts_of}
+use Rattle.links.proofs.CredentialCuts.{scope_fits}
 use Rattle.links.proofs.Texts.{clash}
 use Rattle.links.proofs.SixForms.{names_fail, signature_fails, with_names, all_hold}
 use Rattle.links.proofs.LinkRules.{Heads, parts_of, well_formed}
@@ -108,3 +109,14 @@ returns-in_err-values-clause-named c =
     carried (λ q. q ≡ TryAgain → (r : Request) → IsAskedBy c.args.method c.args.target.now (map header_of c.args.fields.now) r → (path : List ℕ) (params : List Param) → IsTargetOf r.target path params → HaveNames params)
     c.from_residual-in_err-values.result c.in_err-values.field-0.0 c.from_residual-in_err-values.ensures.1
     (λ is r asked. names_of _ _ _ r asked (right_names c.args.target.now c.in_ok-params.params (texts_of c.in_ok-params.six) c.in_ok-params.ensures.ok))
+
+pub returns-in_err-names-clause-named : goal.returns-in_err-names-clause-named
+returns-in_err-names-clause-named c =
+    carried (λ q. q ≡ TryAgain → (r : Request) → IsAskedBy c.args.method c.args.target.now (map header_of c.args.fields.now) r → (path : List ℕ) (params : List Param) → IsTargetOf r.target path params → HaveNames params)
+    c.from_residual-in_err-names.result c.in_err-names.field-0.0 c.from_residual-in_err-names.ensures.1
+    (λ is r asked. names_of _ _ _ r asked (right_names c.args.target.now c.in_ok-params.params (texts_of c.in_ok-params.six) c.in_ok-params.ensures.ok))
+
+pub invariant_of-result : goal.invariant_of-result
+invariant_of-result c =
+    let (before, long, start, expires, held) = c.in_ok-window.ensures.ok in
+    record { scope_fits = scope_fits _ _ before.key_id before.scope _ held.credential long }
