@@ -1,9 +1,10 @@
 -- What a record of a list of links says.
-use Rattle.std.proofs.Common.{◌≡◌, ℕ, List, map, get_or, Bor, ap, sym, subst, ◌∙◌}
+use Rattle.std.proofs.Common.{◌≡◌, ℕ, List, [], ◌∷◌, ◌++◌, map, length, get_or, Bor, ap, refl, sym, subst, ◌∙◌, arith}
 use Rattle.std.proofs.Math.ListN.{get_or-map}
 use Rattle.sigv4.specs.Dates.{WritesMoment}
 use Rattle.links.specs.Forms.{IsExpiry}
-use Rattle.manifests.specs.LinkLists.{IsLinkRow}
+use Rattle.manifests.specs.Lists.{line}
+use Rattle.manifests.specs.LinkLists.{Signing, Wish, IsLinkLine, IsLinkRow, IsLinkText, IsWish}
 
 -- if the whole list is known, each of its texts is known
 text_at : (texts : List (Bor (List ℕ))) (fields : List (List ℕ)) (d : Bor (List ℕ)) (i : ℕ) → map (λ t. t.now) texts ≡ fields → get_or fields i d.now ≡ (get_or texts i d).now
@@ -14,3 +15,26 @@ row_start texts d (w, is) = (w.start, subst (λ t. WritesMoment t w.start) (text
 
 pub row_expiry : (texts : List (Bor (List ℕ))) (d : Bor (List ℕ)) → IsLinkRow (map (λ t. t.now) texts) → (n : ℕ) × IsExpiry (get_or texts 4 d).now n
 row_expiry texts d (w, is) = (w.expires, subst (λ t. IsExpiry t w.expires) (text_at texts _ d 4 is.are) is.is_expires)
+
+-- a list of five texts is made of the texts at its places
+pub five_texts : (ts : List (Bor (List ℕ))) (d : Bor (List ℕ)) → length ts ≡ 5
+    → map (λ t. t.now) ts ≡ (get_or ts 0 d).now ∷ (get_or ts 1 d).now ∷ (get_or ts 2 d).now ∷ (get_or ts 3 d).now ∷ (get_or ts 4 d).now ∷ []
+five_texts [] o long = absurd (omega (arith, long))
+five_texts (a ∷ []) o long = absurd (omega (arith, long))
+five_texts (a ∷ b ∷ []) o long = absurd (omega (arith, long))
+five_texts (a ∷ b ∷ c ∷ []) o long = absurd (omega (arith, long))
+five_texts (a ∷ b ∷ c ∷ d ∷ []) o long = absurd (omega (arith, long))
+five_texts (a ∷ b ∷ c ∷ d ∷ e ∷ []) o long = refl
+five_texts (a ∷ b ∷ c ∷ d ∷ e ∷ f ∷ ts) o long = absurd (omega (arith, long))
+
+-- the five texts and the link are the line that answers the record
+pub wish_line : (g : Signing) (w : Wish) (texts : List (Bor (List ℕ))) (d : Bor (List ℕ)) (fields : List (List ℕ)) (link last text : List ℕ) → length texts ≡ 5 → map (λ t. t.now) texts ≡ fields
+    → IsWish (map (λ t. t.now) texts) w → IsLinkText g w link → last ≡ link
+    → text ≡ line ((get_or texts 0 d).now ∷ (get_or texts 1 d).now ∷ (get_or texts 2 d).now ∷ (get_or texts 3 d).now ∷ (get_or texts 4 d).now ∷ last ∷ []) → IsLinkLine g fields text
+wish_line g w texts d fields link last text long read is (target, leads, whole) linked told = (
+  w,
+  target,
+  subst (λ fs. IsWish fs w) read is,
+  leads,
+  told ∙ ap (λ fs. line (fs ++ last ∷ [])) (sym (five_texts texts d long) ∙ read) ∙ ap (λ t. line (fields ++ t ∷ [])) (linked ∙ whole),
+)
