@@ -8,7 +8,7 @@ use Rattle.wire.proofs.Written.{sends_both}
 use Rattle.csv.specs.Reading.{Reached, default_config, strip_bom}
 use Rattle.csv.specs.Machine.{next_record, Read as OneRecord}
 use Rattle.csv.specs.declared.parser.State.{State as Place}
-use Rattle.manifests.specs.Lists.{line, all_sent, AreLines, AnswersList, BeginsList, IsOfReading, IsOfWriting, IsTable, ListTells, TellsRest}
+use Rattle.manifests.specs.Lists.{line, all_sent, AreLines, AnswersList, BeginsList, IsOfAnswering, IsOfReading, IsOfWriting, IsTable, ListTells, TellsRest, by_keeper}
 use Rattle.csv.specs.declared.parser.State.TheVariants.{StartRecord}
 use Rattle.manifests.specs.declared.list_fault.ListFault.{ListFault}
 use Rattle.manifests.specs.declared.list_fault.ListFault.TheVariants as fault
@@ -122,6 +122,21 @@ of_writing_tells T head Form text fault.Head is begins = absurd is
 of_writing_tells T head Form text (fault.Row n) is begins = absurd is
 of_writing_tells T head Form text (fault.Keep f) is begins = absurd is
 of_writing_tells T head Form text fault.Read is begins = absurd is
+
+pub of_answering_tells : (T : Type 0) (Form : List (List ℕ) → Type 0) (s t : Place) (text rest : List ℕ) (rows : List (List (List ℕ))) (e : ListFault) → IsOfAnswering e
+    → Reached default_config s text rows t rest → TellsRest {T = T} Form s text rows (Err e)
+of_answering_tells T Form s t text rest rows (fault.Keep f) is reached = (t, rest, reached)
+of_answering_tells T Form s t text rest rows fault.Memory is reached = (t, rest, reached)
+of_answering_tells T Form s t text rest rows fault.Order is reached = absurd is
+of_answering_tells T Form s t text rest rows fault.Head is reached = absurd is
+of_answering_tells T Form s t text rest rows (fault.Row n) is reached = absurd is
+of_answering_tells T Form s t text rest rows fault.Read is reached = absurd is
+of_answering_tells T Form s t text rest rows fault.Write is reached = absurd is
+
+-- the keeper's part of a fault does not depend on what was to be returned
+pub same_keeper : (T U : Type 0) (e : ListFault) → by_keeper {T = T} (Err e) ≡ by_keeper {T = U} (Err e)
+same_keeper T U (fault.Keep f) = refl
+same_keeper T U _ = refl
 
 -- a text has only one first record
 pub first_record : (s t : Place) (xs ys : List ℕ) (f : List (List ℕ)) (p : OneRecord) → Reached default_config s xs (f ∷ []) t ys → next_record default_config s [] [] xs ≡ Some p → p.0 ≡ f

@@ -1,5 +1,6 @@
 -- Lists of texts, place by place.
-use Rattle.std.proofs.Common.{◌≡◌, ◌<◌, ◌+◌, ℕ, zero, suc, Some, get_or, slice_set, List, [], ◌∷◌, length, map, ◌≤◌, refl, subst, arith, ⊎_elim}
+use Rattle.std.proofs.Common.{◌≡◌, ◌<◌, ◌+◌, ℕ, zero, suc, Some, get_or, slice_set, Bor, List, [], ◌∷◌, length, map, ◌≤◌, refl, sym, ap, ◌∙◌, subst, arith, ⊎_elim}
+use Rattle.std.proofs.Math.ListN.{get_or-map}
 use Rattle.std.proofs.lemmas.Bool.{cases_lt}
 use Rattle.std.proofs.lemmas.Option.{same_Some}
 use Rattle.std.specs.Prelude.{◌↔◌, IsUtf8}
@@ -16,6 +17,10 @@ same_places (x ∷ xs) (y ∷ ys) long each =
     let first : x ≡ y = same_Some x y (each 0 (omega arith)) in
     let rest : xs ≡ ys = same_places xs ys (omega (arith, long)) (λ k less. each (suc k) (omega (arith, less))) in
     λ i. first i ∷ rest i
+
+-- if the whole list is known, each of its texts is known
+pub text_at : (texts : List (Bor (List ℕ))) (fields : List (List ℕ)) (d : Bor (List ℕ)) (i : ℕ) → map (λ t. t.now) texts ≡ fields → get_or fields i d.now ≡ (get_or texts i d).now
+text_at texts fields d i are = sym (ap (λ fs. get_or fs i d.now) are) ∙ get_or-map (λ t. t.now) texts i d
 
 -- the text at a place of the list
 pub at_place : {A : Type 0} (f : A → List ℕ) (xs : List A) (i : ℕ) (d : A) → i < length xs → field_at (map f xs) i ≡ Some (f (get_or xs i d))

@@ -1,14 +1,15 @@
 -- What a record of a list of links says.
 use Rattle.std.proofs.Common.{◌≡◌, ℕ, List, [], ◌∷◌, ◌++◌, map, length, get_or, Bor, ap, refl, sym, subst, ◌∙◌, arith}
-use Rattle.std.proofs.Math.ListN.{get_or-map}
 use Rattle.sigv4.specs.Dates.{WritesMoment}
 use Rattle.links.specs.Forms.{IsExpiry}
+use Rattle.links.specs.Methods.{method_text}
+use Rattle.links.specs.declared.methods.Method.{Method}
 use Rattle.manifests.specs.Lists.{line}
+use Rattle.manifests.proofs.RecordFields.{text_at}
 use Rattle.manifests.specs.LinkLists.{Signing, Wish, IsLinkLine, IsLinkRow, IsLinkText, IsWish}
 
--- if the whole list is known, each of its texts is known
-text_at : (texts : List (Bor (List ℕ))) (fields : List (List ℕ)) (d : Bor (List ℕ)) (i : ℕ) → map (λ t. t.now) texts ≡ fields → get_or fields i d.now ≡ (get_or texts i d).now
-text_at texts fields d i are = sym (ap (λ fs. get_or fs i d.now) are) ∙ get_or-map (λ t. t.now) texts i d
+pub row_method : (texts : List (Bor (List ℕ))) (d : Bor (List ℕ)) → IsLinkRow (map (λ t. t.now) texts) → (m : Method) × ((get_or texts 0 d).now ≡ method_text m)
+row_method texts d (w, is) = (w.method, sym (text_at texts _ d 0 is.are))
 
 pub row_start : (texts : List (Bor (List ℕ))) (d : Bor (List ℕ)) → IsLinkRow (map (λ t. t.now) texts) → (m : ℕ) × WritesMoment (get_or texts 3 d).now m
 row_start texts d (w, is) = (w.start, subst (λ t. WritesMoment t w.start) (text_at texts _ d 3 is.are) is.is_start)
@@ -26,6 +27,12 @@ five_texts (a ∷ b ∷ c ∷ []) o long = absurd (omega (arith, long))
 five_texts (a ∷ b ∷ c ∷ d ∷ []) o long = absurd (omega (arith, long))
 five_texts (a ∷ b ∷ c ∷ d ∷ e ∷ []) o long = refl
 five_texts (a ∷ b ∷ c ∷ d ∷ e ∷ f ∷ ts) o long = absurd (omega (arith, long))
+
+-- the texts of a wish, whose first is the method's
+pub wish_texts : (texts : List (Bor (List ℕ))) (d : Bor (List ℕ)) (method : List ℕ) → length texts ≡ 5 → (get_or texts 0 d).now ≡ method
+    → map (λ t. t.now) texts ≡ method ∷ (get_or texts 1 d).now ∷ (get_or texts 2 d).now ∷ (get_or texts 3 d).now ∷ (get_or texts 4 d).now ∷ []
+wish_texts texts d method long is =
+    five_texts texts d long ∙ ap (λ t. t ∷ (get_or texts 1 d).now ∷ (get_or texts 2 d).now ∷ (get_or texts 3 d).now ∷ (get_or texts 4 d).now ∷ []) is
 
 -- the five texts and the link are the line that answers the record
 pub wish_line : (g : Signing) (w : Wish) (texts : List (Bor (List ℕ))) (d : Bor (List ℕ)) (fields : List (List ℕ)) (link last text : List ℕ) → length texts ≡ 5 → map (λ t. t.now) texts ≡ fields

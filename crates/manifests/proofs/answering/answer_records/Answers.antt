@@ -1,4 +1,6 @@
-use Rattle.std.proofs.Common.{rules, arith, ◌≡◌, ◌∙◌, [], ◌∷◌, ◌++◌, true, Err, refl, subst, length-append}
+use Rattle.std.proofs.Common.{rules, arith, ◌≡◌, ◌∙◌, ℕ, Option, [], ◌∷◌, ◌++◌, true, Err, refl, subst, length-append}
+use Rattle.std.specs.Prelude.{Vec}
+use Rattle.std.specs.declared.alloc.Global.{Global}
 use Rattle.std.proofs.lemmas.Result.{err_from_is_err_and}
 use Rattle.csv.specs.Reading.{Reached, default_config}
 use Rattle.csv.specs.Records.{fields_of}
@@ -6,7 +8,7 @@ use Rattle.csv.proofs.ReadFacts.{rows-more}
 use Rattle.wire.proofs.Written.{sends_both, sends_same}
 use Rattle.manifests.specs.Answering.{left_in}
 use Rattle.manifests.specs.Lists.{by_keeper}
-use Rattle.manifests.proofs.AnsweredLists.{all_push, lines_none, lines_push, sends_err, sends_nothing, sends_then, sends_whole}
+use Rattle.manifests.proofs.AnsweredLists.{all_push, lines_none, lines_push, of_answering_tells, same_keeper, sends_err, sends_nothing, sends_then, sends_whole}
 use Rattle.manifests.proofs.answering.answer_records.Goals as goal
 
 pub records-init : goal.records-init
@@ -37,6 +39,27 @@ returns-in_default-clause-answers g c =
           let (text, lines, sent) = written w k.0 (g.met.A.Answerer.honest _ _ _ c.answer.ensures.stays k.1) in
           (text, lines, sends_whole tt _ sent);
     }
+
+pub returns-in_err-text-clause-answers : goal.returns-in_err-text-clause-answers
+returns-in_err-text-clause-answers g c =
+    let told_err = err_from_is_err_and c.from_residual-in_err-text.result c.from_residual-in_err-text.ensures.1 in
+    let (rows, count, formed, told, written) = c.records.invariant.answered in
+    rw told_err.1 (record {
+      rows = rows;
+      formed = formed;
+      tells = λ text known.
+          let (rest, source, reached) = told text known in
+          rw told_err.2 (of_answering_tells (Unit {0}) _ _ _ text rest rows c.in_err-text.field-0.0 c.in_err-text.ensures.fault reached);
+      written = λ w k.
+          let (text, lines, sent) = written w k.0 (g.met.A.Answerer.honest _ _ _ c.answer.ensures.stays k.1) in
+          (text, lines, sends_whole tt _ sent);
+    })
+
+pub returns-in_err-text-clause-stays : goal.returns-in_err-text-clause-stays
+returns-in_err-text-clause-stays g c =
+    let told = err_from_is_err_and c.from_residual-in_err-text.result c.from_residual-in_err-text.ensures.1 in
+    let here = subst (λ r. g.A.Answerer.stays c.records.answerer c.answer.new.self (by_keeper r)) c.in_err-text.was c.answer.ensures.stays in
+    rw told.1 (rw told.2 (subst (g.A.Answerer.stays _ _) (same_keeper (Option (Vec ℕ Global)) (Unit {0}) c.in_err-text.field-0.0) (g.met.A.Answerer.joins _ _ _ _ c.records.invariant.stays here)))
 
 pub returns-in_err-send_text-clause-answers : goal.returns-in_err-send_text-clause-answers
 returns-in_err-send_text-clause-answers g c =
