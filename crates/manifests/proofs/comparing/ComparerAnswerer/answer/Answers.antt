@@ -1,3 +1,5 @@
+use Rattle.std.proofs.Common.{refl}
+use Rattle.manifests.specs.Asking.{stays_err, stays_ok, stays_unasked}
 use Rattle.manifests.specs.Manifests.{entry_of, word_of}
 use Rattle.manifests.proofs.Entries.{told_line}
 use Rattle.manifests.proofs.comparing.ComparerAnswerer.answer.Goals as goal
@@ -14,3 +16,12 @@ returns-clause-line g c w known honest =
       told_line c.in_ok-entry_line.field-0.items entry.number_text.now c.in-Some.ensures.some.0.number entry.in_box.now entry.name.now c.word.result.now (word_of found)
           c.in_ok-entry_line.ensures.line c.in-Some.ensures.some.1 c.word.ensures,
     )
+
+pub returns-clause-stays : goal.returns-clause-stays
+returns-clause-stays g c = (refl, stays_ok _ _ _ c.in-Ok.ensures.rest)
+
+pub returns-in-Err-clause-stays : goal.returns-in-Err-clause-stays
+returns-in-Err-clause-stays g c = (refl, stays_err _ _ _ c.in-Err.ensures.rest)
+
+pub returns-in_default-clause-stays : goal.returns-in_default-clause-stays
+returns-in_default-clause-stays g c = (refl, stays_unasked _)
