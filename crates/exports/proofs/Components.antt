@@ -4,7 +4,7 @@ use Rattle.std.specs.Prelude.{IsTrue}
 use Rattle.std.specs.Fmt.{decimal}
 use Rattle.std.specs.Int.{IsInRange}
 use Rattle.std.specs.Str.Parse.{AllDigits}
-use Rattle.std.proofs.lemmas.Bool.{cases_lt}
+use Rattle.std.proofs.lemmas.Bool.{cases_lt, false≢true}
 use Rattle.std.proofs.lemmas.Bool.Decides.{nat_tests}
 use Rattle.std.proofs.lemmas.Fmt.{decimal_injective, decimal_is_IsNumeral, length-decimal-le}
 use Rattle.std.proofs.lemmas.List.{get_or_append_left, get_or-append_right, length-take}
@@ -54,9 +54,8 @@ record IsFine (part : List ℕ) : Type 0 where
 module _ (front part : List ℕ) (are : AreCleaned front part) (whole : length part ≡ length front) where
   cleaned_plain : ArePlain part
   cleaned_plain i h = untrue _ (λ no.
-      let out : MayStand front i → ⊥ = λ may. let same = ap is_plain (are.kept i h may) in let is = may.plain in cc in
-      let stand_in = ap is_plain (are.other i h out) in
-      cc)
+      let out : MayStand front i → ⊥ = λ may. false≢true (sym no ∙ ap is_plain (are.kept i h may) ∙ may.plain) in
+      false≢true (sym no ∙ ap is_plain (are.other i h out)))
 
   cleaned_no_dot : 0 < length part → get_or part (length part - 1) 0 ≢ 46
   cleaned_no_dot some e =

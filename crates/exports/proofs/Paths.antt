@@ -2,7 +2,7 @@
 use Rattle.std.proofs.Common.{◌≡◌, ◌≢◌, ◌∙◌, inl, inr, codes, ℕ, zero, suc, ◌-◌, ◌^◌, ◌<◌, ◌≤◌, Bool, true, false, List, [], ◌∷◌, ◌++◌, length, get_or, refl, sym, ap, subst, arith, ⊎_elim, length-append}
 use Rattle.std.specs.Prelude.{◌&&◌, IsTrue, slice_index}
 use Rattle.std.specs.List.{list_all}
-use Rattle.std.proofs.lemmas.Bool.{cases_lt}
+use Rattle.std.proofs.lemmas.Bool.{cases_lt, false≢true}
 use Rattle.std.proofs.lemmas.Bool.Decides.{nat_tests}
 use Rattle.std.proofs.lemmas.List.{ext_get_or, get_or_append_left, get_or-append_right, take_all}
 use Rattle.std.proofs.lemmas.Str.{IsCharBoundary-end, IsUtf8-from_ascii}
@@ -19,10 +19,7 @@ abbrev Unescaped : ℕ → Type 0
 Unescaped b = (b ≢ 10) × (b ≢ 92)
 
 plain_unescaped : (b : ℕ) → IsTrue (is_plain b) → Unescaped b
-plain_unescaped b is = (
-  λ e. let same = ap is_plain e in cc,
-  λ e. let same = ap is_plain e in cc,
-)
+plain_unescaped b is = (λ e. false≢true (sym (ap is_plain e) ∙ is), λ e. false≢true (sym (ap is_plain e) ∙ is))
 
 each_joined : (P : ℕ → Type 0) (xs ys : List ℕ) → ((i : ℕ) → i < length xs → P (get_or xs i 0)) → ((i : ℕ) → i < length ys → P (get_or ys i 0))
     → (i : ℕ) → i < length (xs ++ ys) → P (get_or (xs ++ ys) i 0)
@@ -84,7 +81,7 @@ module _ (box : List ℕ) (named : IsBoxName box) (begins : slice_index box 0 �
     plain = box_plain (get_or box i 0) (each i h);
     begun = λ dots. begins (dots 0 (omega arith));
     no_dot = λ end dot. let at : length box - 1 ≡ i = omega arith in ends (ap (λ (k : ℕ). get_or box k 0) at ∙ dot);
-    no_space = λ end space. let is = each i h in let same = ap is_box_byte space in cc;
+    no_space = λ end space. false≢true (sym (ap is_box_byte space) ∙ each i h);
   }
 
   own_name : box ≢ codes "files.csv" → box ≢ codes "sha256sums" → (name : List ℕ) → IsCalled box name → name ≡ box

@@ -1,6 +1,7 @@
 -- Sending files one after another.
 use Rattle.std.proofs.Common.{◌≡◌, ◌∙◌, ℕ, Bool, true, false, cond, List, [], ◌∷◌, ◌++◌, Option, Some, None, Result, Ok, Err, refl, sym, ap, subst, append_assoc, append-nil}
 use Rattle.std.specs.FinMap.{get}
+use Rattle.std.specs.Prelude.{IfErr}
 use Rattle.std.specs.List.{AllZip}
 use Rattle.std.proofs.lemmas.Option.{same_Some}
 use Rattle.hex.specs.Hex.{encode_lower}
@@ -15,7 +16,7 @@ use Rattle.wire.proofs.Written.{sends_both}
 use Rattle.manifests.specs.Lists.{line}
 use Rattle.manifests.proofs.AnsweredLists.{lines_joined, lines_none, lines_push, sends_nothing, sends_whole}
 use Rattle.exports.specs.Exports.{IsPut, IsRecord, IsRow, IsSum, SendsFiles, Shown}
-use Rattle.exports.specs.Faults.{if_put, IsOfAsking, was_put}
+use Rattle.exports.specs.Faults.{by_keeper, if_put, IsOfAsking, IsOfWriting, was_put}
 use Rattle.exports.specs.Folders.{Adds, PutFile}
 use Rattle.exports.specs.Names.{IsExportName, IsFolderName}
 use Rattle.exports.specs.declared.export_fault.ExportFault.{ExportFault}
@@ -145,3 +146,12 @@ told_sent s place row f folder name path text sum old new r sound told there is_
       is_path = record { folder = folder; is_folder = is_folder; name = name; is_name = is_name; is = is_path };
       is = is_sum;
     }) put files sums)
+
+-- a fault of the folder or of a writer is none of the keeper
+pub keeper_done : {T : Type 0} (r : Result T ExportFault) → IfErr r IsOfWriting → by_keeper r ≡ Ok tt
+keeper_done (Ok x) is = refl
+keeper_done (Err (fault.Put f)) is = refl
+keeper_done (Err fault.Files) is = refl
+keeper_done (Err fault.Sums) is = refl
+keeper_done (Err (fault.Keep f)) is = absurd is
+keeper_done (Err fault.Memory) is = absurd is

@@ -1,11 +1,12 @@
 use Rattle.std.proofs.Common.{◌≡◌, ◌∙◌, [], ◌∷◌, Result, Err, sym, ap, subst}
 use Rattle.std.proofs.lemmas.Result.{err_from_is_err_and}
 use Rattle.boxes.specs.State.{File, Place}
+use Rattle.keeper.specs.Bound.{StaysBy}
 use Rattle.lists.specs.Places.{place_in}
 use Rattle.exports.specs.Exports.{SendsFiles, shown}
 use Rattle.exports.specs.Faults.{if_put, IsOfAsking}
 use Rattle.exports.specs.declared.export_fault.ExportFault.{ExportFault}
-use Rattle.exports.proofs.SentFiles.{asking_failed, told_sent}
+use Rattle.exports.proofs.SentFiles.{asking_failed, keeper_done, told_sent}
 use Rattle.exports.proofs.exporting.export_file.Goals as goal
 
 pub returns-in_err-file-clause-sent : goal.returns-in_err-file-clause-sent
@@ -34,3 +35,6 @@ returns-clause-sent g c = λ s meant f there.
     (shown (g.F.Folder.holds c.write_file.new.folder) (g.W.Write.contents c.write_file.new.files.inner) (g.V.Write.contents c.write_file.new.sums.inner))
     c.write_file.result meant.1 (c.in_ok-file.ensures.value s meant) there c.in_ok-texts.ensures.folder.0 c.in_ok-texts.ensures.name.0 c.in_ok-texts.ensures.path
     c.in_ok-texts.ensures.row c.in_ok-texts.ensures.sum c.write_file.ensures.put c.write_file.ensures.row c.write_file.ensures.sum
+
+pub returns-clause-stays : goal.returns-clause-stays
+returns-clause-stays g c = subst (StaysBy g.K.Keeper c.args.keeper.now c.file_at.new.keeper) (sym (keeper_done c.write_file.result c.write_file.ensures.fault)) c.in_ok-file.ensures.stays

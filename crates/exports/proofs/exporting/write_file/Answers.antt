@@ -1,0 +1,19 @@
+use Rattle.std.proofs.Common.{Ok}
+use Rattle.wire.proofs.Written.{sends_same}
+use Rattle.manifests.proofs.AnsweredLists.{sends_err, sends_whole}
+use Rattle.exports.proofs.exporting.write_file.Goals as goal
+
+pub returns-in-Ok-clause-row : goal.returns-in-Ok-clause-row
+returns-in-Ok-clause-row g c = sends_whole c.in_default-send.field-0 (Ok tt) (sends_same c.deref-4.ensures.value c.in_default-send.ensures.sent)
+
+pub returns-in-Ok-clause-sum : goal.returns-in-Ok-clause-sum
+returns-in-Ok-clause-sum g c = sends_whole c.in-Ok.field-0 (Ok tt) (sends_same c.deref-5.ensures.value c.in-Ok.ensures.sent)
+
+pub returns-in-Err-send-2-clause-row : goal.returns-in-Err-send-2-clause-row
+returns-in-Err-send-2-clause-row g c = sends_whole c.in_default-send.field-0 _ (sends_same c.deref-4.ensures.value c.in_default-send.ensures.sent)
+
+pub returns-in-Err-send-2-clause-sum : goal.returns-in-Err-send-2-clause-sum
+returns-in-Err-send-2-clause-sum g c = sends_err c.in-Err-send-2.field-0 _ (sends_same c.deref-5.ensures.value c.in-Err-send-2.ensures.sent)
+
+pub returns-in-Err-send-clause-row : goal.returns-in-Err-send-clause-row
+returns-in-Err-send-clause-row g c = sends_err c.in-Err-send.field-0 _ (sends_same c.deref-4.ensures.value c.in-Err-send.ensures.sent)
