@@ -28,3 +28,4 @@ pub mod OwnHeaders
 pub mod OrderedHeaders
 pub mod WrittenLinks
 pub mod Alike
+pub mod Faults

@@ -97,12 +97,23 @@ fn raw_six<'a>(params: &Params<'a>) -> Option<RawSix<'a>>
         (λ six. (ps : List Param) → HoldsParams params.now ps → AreRawSix six ps) }
     ensures none { IfNone result ((ps : List Param) → HoldsParams params.now ps → AreThere ps → ⊥) }
 {
-    let algorithm = params.get(b"X-Amz-Algorithm")?;
-    let credential = params.get(b"X-Amz-Credential")?;
-    let date = params.get(b"X-Amz-Date")?;
-    let expires = params.get(b"X-Amz-Expires")?;
-    let names = params.get(b"X-Amz-SignedHeaders")?;
-    let signature = params.get(b"X-Amz-Signature")?;
+    let (
+        Some(algorithm),
+        Some(credential),
+        Some(date),
+        Some(expires),
+        Some(names),
+        Some(signature),
+    ) = (
+        params.get(b"X-Amz-Algorithm"),
+        params.get(b"X-Amz-Credential"),
+        params.get(b"X-Amz-Date"),
+        params.get(b"X-Amz-Expires"),
+        params.get(b"X-Amz-SignedHeaders"),
+        params.get(b"X-Amz-Signature"),
+    ) else {
+        return None;
+    };
     Some(RawSix {
         algorithm,
         credential,
