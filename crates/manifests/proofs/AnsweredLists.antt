@@ -53,6 +53,10 @@ sends_nothing old {r} = record { front = []; is_front = record { rest = []; join
 pub sends_err : {T U E F : Type 0} {text : List ℕ} {old new : Option (List ℕ)} (e : E) (f : F) → Sends {T = T} text old new (Err e) → Sends {T = U} text old new (Err f)
 sends_err e f sent = record { front = sent.front; is_front = sent.is_front; written = sent.written; whole = tt }
 
+-- writing did not begin
+pub sends_none : {T E : Type 0} (text : List ℕ) (old : Option (List ℕ)) (e : E) → Sends {T = T} text old old (Err e)
+sends_none text old e = record { front = []; is_front = record { rest = text; joined = refl }; written = Appends-nil old; whole = tt }
+
 -- a text follows one that was written whole
 pub sends_then : {T E : Type 0} (front rest : List ℕ) (old mid new : Option (List ℕ)) (u : T) (last : Result ⊤ ⊤)
     → Sends {T = T} {E = E} front old mid (Ok u) → Sends rest mid new last → Sends (front ++ rest) old new last

@@ -7,7 +7,8 @@ use Rattle.csv.specs.Records.{fields_of}
 use Rattle.csv.specs.declared.parser.State.TheVariants.{StartRecord}
 use Rattle.csv.proofs.ReadFacts.{rows-end, rows-more}
 use Rattle.manifests.specs.Answering.{left_in}
-use Rattle.manifests.specs.Lists.{line}
+use Rattle.sigtext.specs.Counts.{CountsErrors}
+use Rattle.manifests.specs.Lists.{by_writer, line}
 use Rattle.manifests.proofs.AnsweredLists.{behind_tells, first_record, none_table, of_reading_broke, of_reading_tells, of_writing_broke, of_writing_headed, of_writing_tells, reached_none, sends_err, sends_then, unanswered}
 use Rattle.manifests.proofs.answering.answer_read.Goals as goal
 
@@ -84,3 +85,21 @@ returns-clause-answers g c =
           (line (map (λ f. f.now) c.args.heads.written.now) ++ text, record { lines = text; are = lines; is = refl }, sends_then _ text _ _ _ tt _ c.in_ok-send_line.ensures.sent sent);
       unwritten = λ is. absurd (c.answer_records.ensures.head is);
     }
+
+pub returns-then-not-branch-clause-stays : goal.returns-then-not-branch-clause-stays
+returns-then-not-branch-clause-stays g c = g.met.A.Answerer.unasked _
+
+pub returns-then-not-is_record-clause-stays : goal.returns-then-not-is_record-clause-stays
+returns-then-not-is_record-clause-stays g c = g.met.A.Answerer.unasked _
+
+pub returns-clause-stays : goal.returns-clause-stays
+returns-clause-stays g c = c.answer_records.ensures.stays
+
+pub returns-clause-reads : goal.returns-clause-reads
+returns-clause-reads g c = c.answer_records.ensures.reads
+
+pub returns-clause-order : goal.returns-clause-order
+returns-clause-order g c = c.answer_records.ensures.order
+
+pub returns-clause-count : goal.returns-clause-count
+returns-clause-count g c = subst (λ n. CountsErrors n c.answer_records.new.out.faults (by_writer c.answer_records.result)) c.in_ok-send_line.ensures.count.ok c.answer_records.ensures.count

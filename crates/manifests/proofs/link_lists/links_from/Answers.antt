@@ -10,3 +10,6 @@ pub returns-clause-answers : goal.returns-clause-answers
 returns-clause-answers g c =
     let told = c.answer_list.ensures.answers in
     record { rows = told.rows; formed = told.formed; tells = told.tells; written = λ w known. told.written w (tt, tt); unwritten = told.unwritten }
+
+pub returns-clause-untouched : goal.returns-clause-untouched
+returns-clause-untouched g c = λ is. absurd (c.answer_list.ensures.order is)

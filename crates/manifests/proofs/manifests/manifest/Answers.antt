@@ -1,8 +1,10 @@
-use Rattle.std.proofs.Common.{[], ◌++◌, refl}
+use Rattle.std.proofs.Common.{[], ◌++◌, refl, subst}
 use Rattle.std.proofs.lemmas.Result.{err_from_is_err_and}
 use Rattle.boxes.specs.Rows.{numbered}
 use Rattle.wire.proofs.Written.{sends_both}
-use Rattle.manifests.specs.Lists.{line}
+use Rattle.sigtext.specs.Counts.{CountsErrors}
+use Rattle.manifests.specs.Asking.{stays_err, stays_joined, stays_ok}
+use Rattle.manifests.specs.Lists.{by_writer, line}
 use Rattle.manifests.specs.Manifests.{manifest_head}
 use Rattle.manifests.proofs.AnsweredLists.{none_table, sends_err, sends_whole}
 use Rattle.manifests.proofs.manifests.manifest.Goals as goal
@@ -39,3 +41,12 @@ returns-clause-writes g c = λ s means sound honest.
       table = record { lines = told.text; are = told.lines; is = refl };
       sent = sends_both (line manifest_head) told.text _ _ _ tt _ c.in_ok-send_line.ensures.sent told.sent;
     }
+
+pub returns-in-Err-clause-stays : goal.returns-in-Err-clause-stays
+returns-in-Err-clause-stays g c = stays_err _ _ _ c.in-Err.ensures.rest
+
+pub returns-clause-stays : goal.returns-clause-stays
+returns-clause-stays g c = stays_joined _ _ _ _ (stays_ok _ _ _ c.in-Ok.ensures.rest) c.send_receipts.ensures.stays
+
+pub returns-clause-count : goal.returns-clause-count
+returns-clause-count g c = subst (λ n. CountsErrors n c.send_receipts.new.out.faults (by_writer c.send_receipts.result)) c.in_ok-send_line.ensures.count.ok c.send_receipts.ensures.count

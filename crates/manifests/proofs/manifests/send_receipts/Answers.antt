@@ -2,7 +2,7 @@ use Rattle.std.proofs.Common.{arith, ◌≡◌, ◌∙◌, ◌+◌, ◌-◌, [],
 use Rattle.std.proofs.lemmas.Result.{err_from_is_err_and}
 use Rattle.boxes.specs.Rows.{numbered, numbered_receipt}
 use Rattle.wire.proofs.Written.{sends_both, sends_same}
-use Rattle.manifests.specs.Asking.{stays_joined, stays_ok, stays_unasked}
+use Rattle.manifests.specs.Asking.{stays_err, stays_joined, stays_ok, stays_unasked}
 use Rattle.manifests.specs.Lists.{AreLines}
 use Rattle.manifests.specs.Manifests.{IsReceiptLine}
 use Rattle.manifests.proofs.AnsweredLists.{lines_none, sends_err, sends_nothing, sends_whole}
@@ -100,3 +100,6 @@ portions-preserved g c =
             sends_both text c.in_ok-text.text.items _ _ _ tt _ sent (sends_same c.deref-in-portions.ensures.value c.in_ok-send_text.ensures.sent),
           );
     }
+
+pub returns-in-Err-clause-stays : goal.returns-in-Err-clause-stays
+returns-in-Err-clause-stays g c = stays_joined _ _ _ _ c.portions.invariant.stays (stays_err _ _ _ c.in-Err.ensures.rest)

@@ -30,3 +30,6 @@ returns c =
     let long : length (fields_of c.args.row.now) ≡ length (map (λ f. f.now) c.args.fields.now) = sym c.len.ensures ∙ c.if-len-fields.false ∙ sym (length-map c.args.fields.now (λ f. f.now)) in
     let all = same_places (fields_of c.args.row.now) (map (λ f. f.now) c.args.fields.now) long (λ k less. c.fields.invariant k (omega (arith, less, length-map c.args.fields.now (λ f. f.now), c.fields-test.false))) in
     (λ t. all, λ t. search rules)
+
+pub returns-then-len-fields : goal.returns-then-len-fields
+returns-then-len-fields c = (λ t. absurd (false≢true t), λ is. absurd (c.if-len-fields.true (c.len.ensures ∙ ap length is ∙ length-map c.args.fields.now (λ f. f.now))))

@@ -1,7 +1,8 @@
 use Rattle.std.proofs.Common.{◌≡◌, ◌∙◌, List, [], map, length, Bor, ℕ, ap, refl, sym, subst}
 use Rattle.std.proofs.lemmas.List.{length-map}
+use Rattle.std.proofs.lemmas.Bool.{false≢true}
 use Rattle.csv.specs.Records.{fields_of}
-use Rattle.manifests.specs.LinkLists.{IsWish, signing_of, wish_of}
+use Rattle.manifests.specs.LinkLists.{IsLinkRow, IsWish, signing_of, wish_of}
 use Rattle.manifests.proofs.Wishes.{wish_line}
 use Rattle.manifests.proofs.link_lists.SignerAnswerer.answer.Goals as goal
 
@@ -17,3 +18,9 @@ returns-clause-line c w known honest =
 pub returns-clause-some : goal.returns-clause-some
 returns-clause-some c =
     (wish_of c.in-Some.wish, subst (λ fields. IsWish fields (wish_of c.in-Some.wish)) (c.if-not-read_fields.ensures.are refl) c.in-Some.ensures.some)
+
+pub returns-then-not-read_fields-clause-none : goal.returns-then-not-read_fields-clause-none
+returns-then-not-read_fields-clause-none c = λ row. false≢true (c.if-not-read_fields.ensures.found.1 (ap length row.1.are))
+
+pub returns-in_default-clause-none : goal.returns-in_default-clause-none
+returns-in_default-clause-none c = λ row. c.in_default.ensures.none (subst IsLinkRow (sym (c.if-not-read_fields.ensures.are refl)) row)
