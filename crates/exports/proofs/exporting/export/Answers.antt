@@ -1,10 +1,12 @@
-use Rattle.std.proofs.Common.{[], ◌++◌, refl}
+use Rattle.std.proofs.Common.{[], ◌++◌, refl, subst}
 use Rattle.std.proofs.lemmas.Result.{err_from_is_err_and}
 use Rattle.std.specs.FinMap.{entries}
+use Rattle.sigtext.specs.Counts.{CountsErrors}
 use Rattle.wire.proofs.Written.{sends_both}
 use Rattle.manifests.specs.Lists.{line}
 use Rattle.manifests.proofs.AnsweredLists.{lines_none, none_table, sends_err, sends_nothing}
 use Rattle.exports.specs.Exports.{export_head, files_in, IsSum, named_box}
+use Rattle.exports.specs.Faults.{by_files}
 use Rattle.exports.proofs.SentFiles.{adds_nothing}
 use Rattle.exports.proofs.exporting.export.Goals as goal
 
@@ -41,3 +43,9 @@ returns-clause-exports g c = λ s means sound honest.
       are_sums = told.sends.are_sums;
       sums = told.sends.sums;
     }
+
+pub returns-clause-files_count : goal.returns-clause-files_count
+returns-clause-files_count g c = subst (λ n. CountsErrors n c.export_files.new.files.faults (by_files c.export_files.result)) c.in_ok-send_head.ensures.files_count.ok c.export_files.ensures.files_count
+
+pub returns-clause-sums_count : goal.returns-clause-sums_count
+returns-clause-sums_count g c = c.export_files.ensures.sums_count

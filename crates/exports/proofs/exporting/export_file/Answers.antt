@@ -38,3 +38,15 @@ returns-clause-sent g c = λ s meant f there.
 
 pub returns-clause-stays : goal.returns-clause-stays
 returns-clause-stays g c = subst (StaysBy g.K.Keeper c.args.keeper.now c.file_at.new.keeper) (sym (keeper_done c.write_file.result c.write_file.ensures.fault)) c.in_ok-file.ensures.stays
+
+pub returns-clause-files_count : goal.returns-clause-files_count
+returns-clause-files_count g c = c.write_file.ensures.files_count
+
+pub returns-clause-sums_count : goal.returns-clause-sums_count
+returns-clause-sums_count g c = c.write_file.ensures.sums_count
+
+pub write_file-requires-clause-folder : goal.write_file-requires-clause-folder
+write_file-requires-clause-folder g c = c.in_ok-texts.ensures.folder.1
+
+pub write_file-requires-clause-name : goal.write_file-requires-clause-name
+write_file-requires-clause-name g c = c.in_ok-texts.ensures.name.1

@@ -1,6 +1,7 @@
 use Rattle.std.proofs.Common.{List, ℕ, Option, Some, None, Vec, Global, sym, subst}
 use Rattle.sigtext.specs.Bytes.{bytes_cmp}
 use Rattle.boxes.specs.State.{place_cmp}
+use Rattle.manifests.specs.Asking.{stays_err, stays_ok}
 use Rattle.rolls.specs.Next.{IsFileIn, IsNext, text_in}
 use Rattle.exports.specs.Exports.{files_in, IsAmong}
 use Rattle.exports.proofs.BoxFiles.{next_of_box}
@@ -18,3 +19,15 @@ pub returns-in-Ok-None-clause-next : goal.returns-in-Ok-None-clause-next
 returns-in-Ok-None-clause-next g c = λ s (means, sound, honest).
     let told = subst (λ (o : Option (Vec ℕ Global)). IsNext bytes_cmp (IsFileIn s c.args.in_box.now) c.args.name.now (text_in o)) c.in-Ok-None.field-0-is (c.in-Ok-None.ensures.value s means sound honest) in
     next_of_box s c.args.in_box.now c.args.name.now None told
+
+pub returns-in-Ok-clause-stays : goal.returns-in-Ok-clause-stays
+returns-in-Ok-clause-stays g c = stays_ok _ _ _ c.in-Ok-Some.ensures.rest
+
+pub returns-in-Err-from_slice-clause-stays : goal.returns-in-Err-from_slice-clause-stays
+returns-in-Err-from_slice-clause-stays g c = stays_ok _ _ _ c.in-Ok-Some.ensures.rest
+
+pub returns-in-Ok-None-clause-stays : goal.returns-in-Ok-None-clause-stays
+returns-in-Ok-None-clause-stays g c = stays_ok _ _ _ c.in-Ok-None.ensures.rest
+
+pub returns-in-Err-clause-stays : goal.returns-in-Err-clause-stays
+returns-in-Err-clause-stays g c = stays_err _ _ _ c.in-Err.ensures.rest

@@ -1,6 +1,6 @@
 use Rattle.std.proofs.Common.{Ok}
 use Rattle.wire.proofs.Written.{sends_same}
-use Rattle.manifests.proofs.AnsweredLists.{sends_err, sends_whole}
+use Rattle.manifests.proofs.AnsweredLists.{sends_err, sends_none, sends_nothing, sends_whole}
 use Rattle.exports.proofs.exporting.write_file.Goals as goal
 
 pub returns-in-Ok-clause-row : goal.returns-in-Ok-clause-row
@@ -17,3 +17,12 @@ returns-in-Err-send-2-clause-sum g c = sends_err c.in-Err-send-2.field-0 _ (send
 
 pub returns-in-Err-send-clause-row : goal.returns-in-Err-send-clause-row
 returns-in-Err-send-clause-row g c = sends_err c.in-Err-send.field-0 _ (sends_same c.deref-4.ensures.value c.in-Err-send.ensures.sent)
+
+pub returns-in-Err-send-clause-sum : goal.returns-in-Err-send-clause-sum
+returns-in-Err-send-clause-sum g c = sends_none _ _ _
+
+pub returns-in-Err-clause-row : goal.returns-in-Err-clause-row
+returns-in-Err-clause-row g c = sends_nothing _
+
+pub returns-in-Err-clause-sum : goal.returns-in-Err-clause-sum
+returns-in-Err-clause-sum g c = sends_nothing _

@@ -1,0 +1,8 @@
+use Rattle.manifests.specs.Asking.{stays_err, stays_ok}
+use Rattle.exports.proofs.exporting.file_at.Goals as goal
+
+pub returns-in-Ok-None-clause-stays : goal.returns-in-Ok-None-clause-stays
+returns-in-Ok-None-clause-stays g c = stays_ok _ _ _ c.in-Ok-None.ensures.rest
+
+pub returns-in-Err-clause-stays : goal.returns-in-Err-clause-stays
+returns-in-Err-clause-stays g c = stays_err _ _ _ c.in-Err.ensures.rest
