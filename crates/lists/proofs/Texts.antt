@@ -1,10 +1,11 @@
--- Joined texts.
-use Rattle.std.proofs.Common.{◌≡◌, ◌∙◌, ℕ, ◌+◌, ◌<◌, ◌-◌, List, [], ◌∷◌, ◌++◌, length, get_or, drop, map, Some, Vec, sym, ap, arith}
+-- Joined texts, and the text of the days.
+use Rattle.std.proofs.Common.{◌≡◌, ◌∙◌, ℕ, ◌+◌, ◌<◌, ◌-◌, Bool, false, List, [], ◌∷◌, ◌++◌, length, get_or, drop, map, Some, Vec, refl, sym, ap, arith}
 use Rattle.std.specs.Prelude.{slice_get}
 use Rattle.std.specs.List.{join_with_byte}
 use Rattle.std.specs.declared.alloc.Global.{Global}
 use Rattle.std.proofs.lemmas.List.{at_drop_more}
 use Rattle.std.proofs.lemmas.Option.{same_Some}
+use Rattle.desk.specs.Texts.{day_digit, days_word}
 use Rattle.sigtext.proofs.JoinedTexts.{joined_behind, joined_behind-cons, joined_behind-nothing}
 
 last_at : {X : Type 0} (y : X) (xs : List X) (x : X) → Some x ≡ slice_get (y ∷ xs) (length xs) → (front : List X) × (y ∷ xs ≡ front ++ x ∷ [])
@@ -29,3 +30,17 @@ pub joined_at : (byte : ℕ) (texts : List (Vec ℕ Global)) (i : ℕ) (d : Vec 
 joined_at byte texts i d within =
     at_drop_more (λ (rest : List (Vec ℕ Global)). joined_behind (byte ∷ []) byte (map (λ t. t.items) rest)) texts i d within
     ∙ joined_behind-cons (byte ∷ []) byte (get_or texts i d).items (map (λ t. t.items) (drop (i + 1) texts))
+
+-- a list of seven days is made of the days at its places
+pub seven_days : (days : List Bool) → length days ≡ 7
+    → days_word days ≡ day_digit (get_or days 0 false) ∷ day_digit (get_or days 1 false) ∷ day_digit (get_or days 2 false) ∷ day_digit (get_or days 3 false) ∷ day_digit (get_or days 4 false)
+    ∷ day_digit (get_or days 5 false) ∷ day_digit (get_or days 6 false) ∷ []
+seven_days [] long = absurd (omega (arith, long))
+seven_days (a ∷ []) long = absurd (omega (arith, long))
+seven_days (a ∷ b ∷ []) long = absurd (omega (arith, long))
+seven_days (a ∷ b ∷ c ∷ []) long = absurd (omega (arith, long))
+seven_days (a ∷ b ∷ c ∷ d ∷ []) long = absurd (omega (arith, long))
+seven_days (a ∷ b ∷ c ∷ d ∷ e ∷ []) long = absurd (omega (arith, long))
+seven_days (a ∷ b ∷ c ∷ d ∷ e ∷ f ∷ []) long = absurd (omega (arith, long))
+seven_days (a ∷ b ∷ c ∷ d ∷ e ∷ f ∷ g ∷ []) long = refl
+seven_days (a ∷ b ∷ c ∷ d ∷ e ∷ f ∷ g ∷ h ∷ days) long = absurd (omega (arith, long))

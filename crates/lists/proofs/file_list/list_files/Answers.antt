@@ -1,3 +1,6 @@
+use Rattle.std.proofs.Common.{subst}
+use Rattle.sigtext.specs.Counts.{CountsErrors}
+use Rattle.manifests.specs.Lists.{by_writer}
 use Rattle.std.specs.FinMap.{entries}
 use Rattle.std.proofs.lemmas.Result.{err_from_is_err_and}
 use Rattle.lists.specs.Files.{files_head, IsFileLine}
@@ -12,3 +15,6 @@ returns-in_err-send_line-clause-writes g c =
 pub returns-clause-writes : goal.returns-clause-writes
 returns-clause-writes g c = λ s means sound honest.
     head_then files_head (IsFileLine s) (entries s.files) _ _ _ tt _ c.in_ok-send_line.ensures.sent (c.send_files.ensures.sent s (means, sound, honest))
+
+pub returns-clause-count : goal.returns-clause-count
+returns-clause-count g c = subst (λ n. CountsErrors n c.send_files.new.out.faults (by_writer c.send_files.result)) c.in_ok-send_line.ensures.count.ok c.send_files.ensures.count

@@ -1,3 +1,5 @@
+use Rattle.std.proofs.Common.{map, subst}
+use Rattle.lists.specs.Keys.{AreLimits}
 use Rattle.manifests.specs.Asking.{stays_err, stays_joined, stays_ok}
 use Rattle.lists.proofs.Passed.{passed_answering, passed_stays}
 use Rattle.lists.proofs.key_list.next_key.Goals as goal
@@ -70,3 +72,8 @@ returns-clause-stays g c = stays_joined _ _ _ _ (stays_joined _ _ _ _ (stays_ok 
 
 pub returns-clause-fault : goal.returns-clause-fault
 returns-clause-fault g c = tt
+
+pub returns-clause-limits : goal.returns-clause-limits
+returns-clause-limits g c = λ s (means, sound, honest).
+    let known = c.in-Ok-Some-key.ensures.rest.same s (c.in-Ok-Some.ensures.rest.same s means) in
+    subst (λ id. AreLimits s id (map (λ b. b.items) c.in_ok-boxes.boxes.items)) c.deref-2.ensures.value (c.in_ok-boxes.ensures.value s (known, sound, honest))

@@ -2,7 +2,7 @@ use Rattle.std.proofs.Common.{Some, List, ℕ, option_map, sym, subst}
 use Rattle.std.proofs.lemmas.Result.{IfOk-weaker}
 use Rattle.boxes.specs.State.{place_cmp}
 use Rattle.rolls.specs.Next.{IsFile, IsNext}
-use Rattle.manifests.specs.Asking.{stays_joined, stays_ok}
+use Rattle.manifests.specs.Asking.{stays_err, stays_joined, stays_ok}
 use Rattle.lists.specs.Places.{place_in}
 use Rattle.lists.proofs.NextFiles.{next_in_box, next_past}
 use Rattle.lists.proofs.places.next_file.Goals as goal
@@ -31,3 +31,9 @@ returns-in-Ok-None-clause-stays g c = stays_joined _ _ _ _ (stays_ok _ _ _ c.in-
 
 pub returns-in-Ok-None-clause-fault : goal.returns-in-Ok-None-clause-fault
 returns-in-Ok-None-clause-fault g c = c.file_past.ensures.fault
+
+pub returns-in-Err-from_slice-clause-stays : goal.returns-in-Err-from_slice-clause-stays
+returns-in-Err-from_slice-clause-stays g c = stays_ok _ _ _ c.in-Ok-Some.ensures.rest
+
+pub returns-in-Err-clause-stays : goal.returns-in-Err-clause-stays
+returns-in-Err-clause-stays g c = stays_err _ _ _ c.in-Err.ensures.rest
