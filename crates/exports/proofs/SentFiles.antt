@@ -155,3 +155,8 @@ keeper_done (Err fault.Files) is = refl
 keeper_done (Err fault.Sums) is = refl
 keeper_done (Err (fault.Keep f)) is = absurd is
 keeper_done (Err fault.Memory) is = absurd is
+
+-- a file that was put under equal names, with equal bytes
+pub put_same : (old new : Option (List PutFile)) (a b c d xs ys : List ℕ) → a ≡ b → c ≡ d → xs ≡ ys → Adds old new (record { path = a ++ 47 ∷ c; bytes = xs } ∷ [])
+    → Adds old new (record { path = b ++ 47 ∷ d; bytes = ys } ∷ [])
+put_same old new a b c d xs ys folder name bytes put = subst (λ (p : PutFile). Adds old new (p ∷ [])) (λ i. record { path = folder i ++ 47 ∷ name i; bytes = bytes i }) put

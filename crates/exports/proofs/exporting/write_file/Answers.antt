@@ -1,6 +1,7 @@
 use Rattle.std.proofs.Common.{Ok}
 use Rattle.wire.proofs.Written.{sends_same}
 use Rattle.manifests.proofs.AnsweredLists.{sends_err, sends_none, sends_nothing, sends_whole}
+use Rattle.exports.proofs.SentFiles.{put_same}
 use Rattle.exports.proofs.exporting.write_file.Goals as goal
 
 pub returns-in-Ok-clause-row : goal.returns-in-Ok-clause-row
@@ -26,3 +27,12 @@ returns-in-Err-clause-row g c = sends_nothing _
 
 pub returns-in-Err-clause-sum : goal.returns-in-Err-clause-sum
 returns-in-Err-clause-sum g c = sends_nothing _
+
+pub returns-in-Ok-clause-put : goal.returns-in-Ok-clause-put
+returns-in-Ok-clause-put g c = put_same _ _ _ _ _ _ _ _ c.deref.ensures.value c.deref-2.ensures.value c.deref-3.ensures.value c.in_default.ensures.put
+
+pub returns-in-Err-send-2-clause-put : goal.returns-in-Err-send-2-clause-put
+returns-in-Err-send-2-clause-put g c = put_same _ _ _ _ _ _ _ _ c.deref.ensures.value c.deref-2.ensures.value c.deref-3.ensures.value c.in_default.ensures.put
+
+pub returns-in-Err-send-clause-put : goal.returns-in-Err-send-clause-put
+returns-in-Err-send-clause-put g c = put_same _ _ _ _ _ _ _ _ c.deref.ensures.value c.deref-2.ensures.value c.deref-3.ensures.value c.in_default.ensures.put
