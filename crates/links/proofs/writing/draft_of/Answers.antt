@@ -1,4 +1,5 @@
-use Rattle.std.proofs.Common.{List, map, ap, subst, ◌≡◌, ◌∙◌}
+use Rattle.std.proofs.Common.{List, map, length, ap, subst, ◌≡◌, ◌∙◌, arith}
+use Rattle.std.proofs.lemmas.List.{length-map}
 use Rattle.std.proofs.lemmas.Result.{IfOk-weaker}
 use Rattle.sigtext.specs.Target.{Param}
 use Rattle.sigv4.specs.Scopes.{scope_of}
@@ -18,3 +19,6 @@ returns c =
     let params : map param_of c.deref-2.result.now ≡ draft_params five (map param_of c.args.order.now.params.now) =
     ap (λ (ps : List OrderParam). map param_of ps) c.deref-2.ensures.value ∙ c.in_ok-params.ensures ∙ ap (λ (v : DraftValues). draft_params v (map param_of c.args.order.now.params.now)) same in
     IfOk-weaker c.draft_text.result _ _ (λ t is. subst (λ (ps : List Param). IsDraft c.args.order.now.path.now ps t.items) params is) c.draft_text.ensures
+
+pub draft_text-requires : goal.draft_text-requires
+draft_text-requires c = omega (arith, ap length c.deref-2.ensures.value, length-map c.in_ok-params.params.items param_of, ap length c.in_ok-params.ensures)
