@@ -1,6 +1,6 @@
 //! The rows of each table, read as values.
 
-ghost use Rattle.std.specs.Prelude.{◌≡◌, IfOk, IsTrue, length, map};
+ghost use Rattle.std.specs.Prelude.{◌≡◌, ◌<◌, ℕ, pos, get_or, IfOk, IsTrue, length, map};
 ghost use Rattle.std.specs.List.{AllZip, AllAdjacentBelow};
 ghost use Rattle.std.specs.Ordering.{int_cmp};
 ghost use Rattle.std.specs.declared.cmp.Ordering.TheVariants.{Less};
@@ -134,6 +134,18 @@ fn text(alloc: Global, row: &Row, at: usize) -> Result<Vec<u8>, Error>
     Ok(bytes)
 }
 
+/// The integers in these columns.
+fn integers<const N: usize>(row: &Row, columns: [usize; N]) -> Result<[i64; N], Error>
+    ensures { IfOk result (λ numbers. (k : ℕ) → k < N
+        → column row.now (get_or columns.entry k 0) ≡ Int (get_or numbers k (pos 0))) }
+{
+    let mut numbers = [0; N];
+    for at in 0..N {
+        numbers[at] = row.get(columns[at])?;
+    }
+    Ok(numbers)
+}
+
 impl Line for OfficeLine {
     ghost reads = { IsOfficeLine };
 
@@ -163,20 +175,32 @@ impl Line for BoxLine {
     ghost reads = { IsBoxLine };
 
     fn of_row(alloc: Global, row: &Row) -> Result<BoxLine, Error> {
+        let [
+            opens,
+            closes,
+            from_minute,
+            to_minute,
+            quota,
+            max_files,
+            mode,
+            rule_kind,
+            used,
+            count,
+        ] = integers(row, [2, 3, 5, 6, 7, 8, 9, 10, 12, 13])?;
         Ok(BoxLine {
             name: text(alloc, row, 1)?,
-            opens: row.get(2)?,
-            closes: row.get(3)?,
+            opens,
+            closes,
             days: text(alloc, row, 4)?,
-            from_minute: row.get(5)?,
-            to_minute: row.get(6)?,
-            quota: row.get(7)?,
-            max_files: row.get(8)?,
-            mode: row.get(9)?,
-            rule_kind: row.get(10)?,
+            from_minute,
+            to_minute,
+            quota,
+            max_files,
+            mode,
+            rule_kind,
             rule_text: text(alloc, row, 11)?,
-            used: row.get(12)?,
-            count: row.get(13)?,
+            used,
+            count,
         })
     }
 }
