@@ -90,7 +90,7 @@ cut_from bytes at piece is = elim (cases_Bool (nat_lt (65536 * at) (length bytes
       let e = rw within at is in
       let cut : take 65536 (drop (65536 * at) bytes) ≡ piece = cc in
       (ltb-true (65536 * at) (length bytes) within, ap length (sym cut) ∙ length-take 65536 (drop (65536 * at) bytes) ∙ ap (min 65536) (length-drop (65536 * at) bytes))
-  | inr beyond ↦ let e = rw beyond at is in absurd cc
+  | inr beyond ↦ absurd (some_none piece (sym (rw beyond at is)))
 ]
 
 -- the file that has this piece

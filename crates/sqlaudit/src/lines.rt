@@ -150,11 +150,8 @@ impl Line for OfficeLine {
     ghost reads = { IsOfficeLine };
 
     fn of_row(_alloc: Global, row: &Row) -> Result<OfficeLine, Error> {
-        Ok(OfficeLine {
-            id: row.get(0)?,
-            version: row.get(2)?,
-            east: row.get(3)?,
-        })
+        let [id, version, east] = integers(row, [0, 2, 3])?;
+        Ok(OfficeLine { id, version, east })
     }
 }
 
@@ -162,11 +159,12 @@ impl Line for KeyLine {
     ghost reads = { IsKeyLine };
 
     fn of_row(alloc: Global, row: &Row) -> Result<KeyLine, Error> {
+        let [role, revoked] = integers(row, [2, 4])?;
         Ok(KeyLine {
             id: text(alloc, row, 1)?,
-            role: row.get(2)?,
+            role,
             secret: row.get(3)?,
-            revoked: row.get(4)?,
+            revoked,
         })
     }
 }
@@ -209,13 +207,14 @@ impl Line for ReceiptLine {
     ghost reads = { IsReceiptLine };
 
     fn of_row(alloc: Global, row: &Row) -> Result<ReceiptLine, Error> {
+        let [number, length, moment] = integers(row, [0, 4, 6])?;
         Ok(ReceiptLine {
-            number: row.get(0)?,
+            number,
             in_box: text(alloc, row, 2)?,
             name: text(alloc, row, 3)?,
-            length: row.get(4)?,
+            length,
             digest: row.get(5)?,
-            moment: row.get(6)?,
+            moment,
             key: text(alloc, row, 7)?,
         })
     }
@@ -237,11 +236,12 @@ impl Line for PieceLine {
     ghost reads = { ShowsPiece };
 
     fn of_row(alloc: Global, row: &Row) -> Result<PieceLine, Error> {
+        let [part, length] = integers(row, [3, 4])?;
         Ok(PieceLine {
             in_box: text(alloc, row, 1)?,
             name: text(alloc, row, 2)?,
-            part: row.get(3)?,
-            length: row.get(4)?,
+            part,
+            length,
         })
     }
 }
@@ -250,10 +250,8 @@ impl Line for RulesLine {
     ghost reads = { IsRulesLine };
 
     fn of_row(_alloc: Global, row: &Row) -> Result<RulesLine, Error> {
-        Ok(RulesLine {
-            id: row.get(0)?,
-            allowance: row.get(2)?,
-        })
+        let [id, allowance] = integers(row, [0, 2])?;
+        Ok(RulesLine { id, allowance })
     }
 }
 
