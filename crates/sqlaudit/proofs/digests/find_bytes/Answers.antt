@@ -32,7 +32,7 @@ loop-tx-preserved g c =
       survives = c.read_piece.ensures.rest.survives;
     } in
     let count : c.in-Some-checked_add.next ≡ c.loop-tx.part + 1 = search rules in
-    let items : c.extend_from_slice.new.self.items ≡ bytes ++ piece = c.in_ok-extend_from_slice.ensures.items ∙ ap (◌++◌ bytes) c.deref.ensures.value in
+    let items : c.extend_from_slice.new.self.items ≡ bytes ++ piece = ◌∙◌ {b = bytes ++ c.deref.result.now} c.in_ok-extend_from_slice.ensures.items (ap (◌++◌ bytes) c.deref.ensures.value) in
     let less : length bytes < c.args.size = subst (λ n. n < c.args.size) (c.len.ensures ∙ c.loop-tx.bytes.ok.0) c.loop-tx-test.true in
     let fits : length piece ≡ min (c.args.size - length bytes) 65536 = search rules in
     (c.read_piece.ensures.rest.same_reference ∙ c.loop-tx.invariant.0, subst₂ (Gathered entry now place c.args.size) (sym items) (sym count) (gathers entry mid now place c.args.size bytes piece c.loop-tx.part c.loop-tx.invariant.1 next less fits))
