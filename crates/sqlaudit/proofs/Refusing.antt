@@ -7,6 +7,7 @@ use Rattle.sqlite_value.specs.Order.{Row}
 use Rattle.sqlite.specs.Effect.{Database}
 use Rattle.sigv4.specs.Hmac.{sha256}
 use Rattle.boxes.specs.State.{Place, File, Receipt, State as Office}
+use Rattle.boxes.proofs.Lookups.{some_none}
 use Rattle.sqltables.specs.Schema.{Version, IsVersion, v1}
 use Rattle.sqltables.specs.Tables.{Box, Part, RowsMean, IsOfficeRow, IsKeyRow, IsBoxRow, IsReceiptRow, IsFileRow, IsPieceRow, IsRulesRow, IsLimitRow, TablesMean, tables_of, piece_of}
 use Rattle.sqlaudit.specs.Lines.{AreLines, IsOfficeLine, IsKeyLine, IsBoxLine, IsReceiptLine, IsFileLine, IsPieceLine, IsRulesLine, IsLimitLine}
@@ -89,7 +90,7 @@ cut_from bytes at piece is = elim (cases_Bool (nat_lt (65536 * at) (length bytes
       let e = rw within at is in
       let cut : take 65536 (drop (65536 * at) bytes) ≡ piece = cc in
       (ltb-true (65536 * at) (length bytes) within, ap length (sym cut) ∙ length-take 65536 (drop (65536 * at) bytes) ∙ ap (min 65536) (length-drop (65536 * at) bytes))
-  | inr beyond ↦ let e = rw beyond at is in absurd cc
+  | inr beyond ↦ absurd (some_none piece (sym (rw beyond at is)))
 ]
 
 -- the file that has this piece
@@ -235,7 +236,7 @@ module _ (v : Version) (ours : IsVersion v) (db : Database) (lines : Lines) (off
         go : (at : ℕ) (o : Option (List ℕ)) → piece_of bytes at ≡ o → piece_of bytes at ≡ piece_of held.bytes at
         go at (Some piece) is = is ∙ sym (found_stands at piece (b.pieces at piece is))
         go at None is = elim (cases_Bool (nat_lt (65536 * at) (length bytes))) [
-          | inl within ↦ let e = rw within at is in absurd cc
+          | inl within ↦ absurd (some_none (take 65536 (drop (65536 * at) bytes)) (rw within at is))
           | inr beyond ↦ is ∙ sym (no_piece held.bytes at (let past = ltb-false (65536 * at) (length bytes) beyond in omega (arith, past, b.size_is)))
         ]
 

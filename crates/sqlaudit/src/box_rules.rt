@@ -99,25 +99,44 @@ fn entry_of(line: &BoxLine, rule: NameRule) -> Option<BoxEntry>
         → IsBoxEntry line.now line.now.name.items (box_in e)
         × (name_rule_of e.row.rule ≡ name_rule_of rule)) }
 {
-    let (opens, closes, from, to) = (line.opens, line.closes, line.from_minute, line.to_minute);
-    let (quota, most, mode) = (line.quota, line.max_files, line.mode);
-    let (used, count) = (line.used, line.count);
+    let (
+        Some(opens),
+        Some(closes),
+        Some(days),
+        Some(from_minute),
+        Some(to_minute),
+        Some(quota),
+        Some(max_files),
+        Some(mode),
+        Some(used),
+        Some(count),
+    ) = (
+        natural(line.opens),
+        natural(line.closes),
+        days_of(&line.days),
+        minute_of(line.from_minute),
+        minute_of(line.to_minute),
+        natural(line.quota),
+        natural(line.max_files),
+        mode_of(line.mode),
+        natural(line.used),
+        natural(line.count),
+    )
+    else {
+        return None;
+    };
     let row = BoxRow {
-        opens: natural(opens)?,
-        closes: natural(closes)?,
-        days: days_of(&line.days)?,
-        from_minute: minute_of(from)?,
-        to_minute: minute_of(to)?,
-        quota: natural(quota)?,
-        max_files: natural(most)?,
-        mode: mode_of(mode)?,
+        opens,
+        closes,
+        days,
+        from_minute,
+        to_minute,
+        quota,
+        max_files,
+        mode,
         rule,
     };
-    Some(BoxEntry {
-        row,
-        used: natural(used)?,
-        count: natural(count)?,
-    })
+    Some(BoxEntry { row, used, count })
 }
 
 /// Whether two rules are the same.

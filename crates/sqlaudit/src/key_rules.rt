@@ -57,11 +57,13 @@ fn key_of(line: &KeyLine) -> Option<KeyEntry<'_>>
     if !is_key_id(&line.id) || !is_secret(&line.secret) {
         return None;
     }
-    let (role, revoked) = (line.role, line.revoked);
+    let (Some(role), Some(revoked)) = (role_of(line.role), flag_of(line.revoked)) else {
+        return None;
+    };
     Some(KeyEntry {
-        role: role_of(role)?,
+        role,
         secret: &line.secret,
-        revoked: flag_of(revoked)?,
+        revoked,
     })
 }
 

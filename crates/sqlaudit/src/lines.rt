@@ -1,6 +1,6 @@
 //! The rows of each table, read as values.
 
-ghost use Rattle.std.specs.Prelude.{◌≡◌, IfOk, IsTrue, length, map};
+ghost use Rattle.std.specs.Prelude.{◌≡◌, ◌<◌, ℕ, pos, get_or, IfOk, IsTrue, length, map};
 ghost use Rattle.std.specs.List.{AllZip, AllAdjacentBelow};
 ghost use Rattle.std.specs.Ordering.{int_cmp};
 ghost use Rattle.std.specs.declared.cmp.Ordering.TheVariants.{Less};
@@ -134,15 +134,24 @@ fn text(alloc: Global, row: &Row, at: usize) -> Result<Vec<u8>, Error>
     Ok(bytes)
 }
 
+/// The integers in these columns.
+fn integers<const N: usize>(row: &Row, columns: [usize; N]) -> Result<[i64; N], Error>
+    ensures { IfOk result (λ numbers. (k : ℕ) → k < N
+        → column row.now (get_or columns.entry k 0) ≡ Int (get_or numbers k (pos 0))) }
+{
+    let mut numbers = [0; N];
+    for at in 0..N {
+        numbers[at] = row.get(columns[at])?;
+    }
+    Ok(numbers)
+}
+
 impl Line for OfficeLine {
     ghost reads = { IsOfficeLine };
 
     fn of_row(_alloc: Global, row: &Row) -> Result<OfficeLine, Error> {
-        Ok(OfficeLine {
-            id: row.get(0)?,
-            version: row.get(2)?,
-            east: row.get(3)?,
-        })
+        let [id, version, east] = integers(row, [0, 2, 3])?;
+        Ok(OfficeLine { id, version, east })
     }
 }
 
@@ -150,11 +159,12 @@ impl Line for KeyLine {
     ghost reads = { IsKeyLine };
 
     fn of_row(alloc: Global, row: &Row) -> Result<KeyLine, Error> {
+        let [role, revoked] = integers(row, [2, 4])?;
         Ok(KeyLine {
             id: text(alloc, row, 1)?,
-            role: row.get(2)?,
+            role,
             secret: row.get(3)?,
-            revoked: row.get(4)?,
+            revoked,
         })
     }
 }
@@ -163,20 +173,32 @@ impl Line for BoxLine {
     ghost reads = { IsBoxLine };
 
     fn of_row(alloc: Global, row: &Row) -> Result<BoxLine, Error> {
+        let [
+            opens,
+            closes,
+            from_minute,
+            to_minute,
+            quota,
+            max_files,
+            mode,
+            rule_kind,
+            used,
+            count,
+        ] = integers(row, [2, 3, 5, 6, 7, 8, 9, 10, 12, 13])?;
         Ok(BoxLine {
             name: text(alloc, row, 1)?,
-            opens: row.get(2)?,
-            closes: row.get(3)?,
+            opens,
+            closes,
             days: text(alloc, row, 4)?,
-            from_minute: row.get(5)?,
-            to_minute: row.get(6)?,
-            quota: row.get(7)?,
-            max_files: row.get(8)?,
-            mode: row.get(9)?,
-            rule_kind: row.get(10)?,
+            from_minute,
+            to_minute,
+            quota,
+            max_files,
+            mode,
+            rule_kind,
             rule_text: text(alloc, row, 11)?,
-            used: row.get(12)?,
-            count: row.get(13)?,
+            used,
+            count,
         })
     }
 }
@@ -185,13 +207,14 @@ impl Line for ReceiptLine {
     ghost reads = { IsReceiptLine };
 
     fn of_row(alloc: Global, row: &Row) -> Result<ReceiptLine, Error> {
+        let [number, length, moment] = integers(row, [0, 4, 6])?;
         Ok(ReceiptLine {
-            number: row.get(0)?,
+            number,
             in_box: text(alloc, row, 2)?,
             name: text(alloc, row, 3)?,
-            length: row.get(4)?,
+            length,
             digest: row.get(5)?,
-            moment: row.get(6)?,
+            moment,
             key: text(alloc, row, 7)?,
         })
     }
@@ -213,11 +236,12 @@ impl Line for PieceLine {
     ghost reads = { ShowsPiece };
 
     fn of_row(alloc: Global, row: &Row) -> Result<PieceLine, Error> {
+        let [part, length] = integers(row, [3, 4])?;
         Ok(PieceLine {
             in_box: text(alloc, row, 1)?,
             name: text(alloc, row, 2)?,
-            part: row.get(3)?,
-            length: row.get(4)?,
+            part,
+            length,
         })
     }
 }
@@ -226,10 +250,8 @@ impl Line for RulesLine {
     ghost reads = { IsRulesLine };
 
     fn of_row(_alloc: Global, row: &Row) -> Result<RulesLine, Error> {
-        Ok(RulesLine {
-            id: row.get(0)?,
-            allowance: row.get(2)?,
-        })
+        let [id, allowance] = integers(row, [0, 2])?;
+        Ok(RulesLine { id, allowance })
     }
 }
 

@@ -90,15 +90,22 @@ fn entry_of(line: &ReceiptLine) -> Option<(u64, ReceiptEntry<'_>)>
     ensures { MatchOption result ((at : ℕ) (r : Receipt) → IsReceiptEntry line.now at r → ⊥)
         (λ e. IsReceiptEntry line.now e.0 (given_in e.1)) }
 {
-    let (number, length, moment) = (line.number, line.length, line.moment);
+    let (Some(at), Some(size), Some(moment)) = (
+        place_of(line.number),
+        natural(line.length),
+        natural(line.moment),
+    )
+    else {
+        return None;
+    };
     Some((
-        place_of(number)?,
+        at,
         ReceiptEntry {
             in_box: &line.in_box,
             name: &line.name,
-            size: natural(length)?,
+            size,
             digest: &line.digest,
-            moment: natural(moment)?,
+            moment,
             key: &line.key,
         },
     ))

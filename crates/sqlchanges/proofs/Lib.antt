@@ -15,3 +15,4 @@ pub mod Chained
 pub mod Upgrades
 pub mod LimitRows
 pub mod StagedRows
+pub mod Ran

@@ -1,1 +1,2 @@
 pub mod BoxRows
+pub mod Running

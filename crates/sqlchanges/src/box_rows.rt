@@ -10,9 +10,9 @@ ghost use Rattle.sqltables.specs.Inside.{seen, GoesOnInside};
 ghost use Rattle.sqltables.specs.Means.{Pends};
 ghost use Rattle.sqlchanges.specs.BoxRows.{AreValuesOf};
 
+use crate::running::run;
 use boxes::{BoxRow, Mode, NameRule};
 use sqlite::{Alter, Error, ErrorCode, Transaction, params};
-use sqltables::calls::execute;
 use sqltables::reading::digits_of_days;
 use std::alloc::{AllocError, Global};
 
@@ -57,7 +57,7 @@ pub(crate) fn insert_values<S: Alter>(
         (with_box tables name.now (record { settings = b; used = 0; count = 0 }))) }
     ensures rest { GoesOnInside S.Store tx.old tx.new result }
 {
-    execute(
+    run(
         tx,
         "INSERT INTO boxes VALUES (?1, ?2, ?3, ?4, ?5, ?6, ?7, ?8, ?9, ?10, ?11, 0, 0)",
         params![
@@ -73,8 +73,7 @@ pub(crate) fn insert_values<S: Alter>(
             values.kind,
             values.text
         ],
-    )?;
-    Ok(())
+    )
 }
 
 /// The number as an SQL integer. A number that does not fit in `i64` is refused with `TooBig`.

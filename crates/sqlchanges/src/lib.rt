@@ -4,5 +4,6 @@
 mod box_rows;
 pub mod changes;
 pub mod making;
+mod running;
 pub mod staged;
 mod statements;

@@ -9,11 +9,11 @@ ghost use Rattle.sqltables.specs.Inside.{seen, GoesOnInside};
 ghost use Rattle.sqltables.specs.Means.{SeesNothing, Pends, Creates, SeesMore, SeesRules, SeesUnstaged, AddsTable};
 ghost use Rattle.sqltables.specs.Tables.{Tables};
 
+use crate::running::run;
 use crate::statements::insert_key;
 use boxes::Role;
 use sigv4::Allowance;
 use sqlite::{Alter, Error, Transaction, params};
-use sqltables::calls::execute;
 
 /// Creates a table without rows, besides the existing tables, by running this text.
 fn create_table<S: Alter>(tx: &mut Transaction<'_, S>, sql: &str) -> Result<(), Error>
@@ -27,8 +27,7 @@ fn create_table<S: Alter>(tx: &mut Transaction<'_, S>, sql: &str) -> Result<(), 
         → OnOk result (SeesMore after more (seen S.Store tx.new) tables) }
     ensures rest { GoesOnInside S.Store tx.old tx.new result }
 {
-    execute(tx, sql, &[])?;
-    Ok(())
+    run(tx, sql, &[])
 }
 
 /// Creates the six tables of version 1: the office's own, its keys, its boxes, its receipts, its files without their bytes,
@@ -70,12 +69,11 @@ fn insert_office<S: Alter>(tx: &mut Transaction<'_, S>, east: i16) -> Result<(),
         → OnOk result (Pends v1 (seen S.Store tx.new) (no_rows east 0)) }
     ensures rest { GoesOnInside S.Store tx.old tx.new result }
 {
-    execute(
+    run(
         tx,
         "INSERT INTO office VALUES (1, 1, ?1)",
         params![i32::from(east)],
-    )?;
-    Ok(())
+    )
 }
 
 /// Creates the three tables that version 2 adds: the office's rules, the boxes of limited keys, and what is staged.
@@ -104,8 +102,7 @@ fn insert_rules<S: Alter>(tx: &mut Transaction<'_, S>, seconds: u32) -> Result<(
         → OnOk result (SeesRules (seen S.Store tx.new) tables seconds) }
     ensures rest { GoesOnInside S.Store tx.old tx.new result }
 {
-    execute(tx, "INSERT INTO rules VALUES (1, ?1)", params![seconds])?;
-    Ok(())
+    run(tx, "INSERT INTO rules VALUES (1, ?1)", params![seconds])
 }
 
 /// Sets the version in the office's row to 2.
@@ -116,8 +113,7 @@ fn update_version<S: Alter>(tx: &mut Transaction<'_, S>) -> Result<(), Error>
         → OnOk result (SeesUnstaged (seen S.Store tx.new)) }
     ensures rest { GoesOnInside S.Store tx.old tx.new result }
 {
-    execute(tx, "UPDATE office SET version = 2", &[])?;
-    Ok(())
+    run(tx, "UPDATE office SET version = 2", &[])
 }
 
 /// Upgrades the tables of an office from version 1 to version 2. All rows stay, no key is limited, and nothing is staged.

@@ -8,8 +8,9 @@ ghost use Rattle.sqltables.specs.Schema.{v2, staged_tree};
 ghost use Rattle.sqltables.specs.Tables.{NoneStaged, IsEmptied};
 ghost use Rattle.sqltables.specs.Inside.{seen, GoesOnInside, GoesOnBegun, StillSecond, HasSchema};
 
+use crate::running::run;
 use sqlite::{Alter, Error, ErrorCode, Transaction};
-use sqltables::calls::{execute, query};
+use sqltables::calls::query;
 
 /// Whether any row is staged.
 fn has_staged<S: Alter>(tx: &mut Transaction<'_, S>) -> Result<bool, Error>
@@ -37,8 +38,7 @@ fn delete_staged<S: Alter>(tx: &mut Transaction<'_, S>) -> Result<(), Error>
         (seen S.Store tx.old).now.schema.tables) }
     ensures rest { GoesOnInside S.Store tx.old tx.new result }
 {
-    execute(tx, "DELETE FROM staged", &[])?;
-    Ok(())
+    run(tx, "DELETE FROM staged", &[])
 }
 
 /// Deletes the staged rows, if there are any. The office's tables are unchanged. If there are none, nothing is

@@ -9,9 +9,9 @@ ghost use Rattle.sqltables.specs.Inside.{seen, GoesOnInside, GoesOnWhere, Turns}
 ghost use Rattle.sqltables.specs.Means.{Pends, IsRunning};
 ghost use Rattle.sqltables.specs.Staging.{held};
 
+use crate::running::run;
 use boxes::Role;
 use sqlite::{Alter, Error, Transaction, params};
-use sqltables::calls::execute;
 use sqltables::staging::Pieces;
 
 /// Inserts a receipt.
@@ -32,12 +32,11 @@ pub(crate) fn insert_receipt<S: Alter>(
         → OnOk result (Pends v (seen S.Store tx.new) (with_receipt tables at r)) }
     ensures rest { GoesOnInside S.Store tx.old tx.new result }
 {
-    execute(
+    run(
         tx,
         "INSERT INTO receipts VALUES (?1, ?2, ?3, ?4, ?5, ?6, ?7)",
         params![number, box_name, name, length, digest, moment, key],
-    )?;
-    Ok(())
+    )
 }
 
 /// Inserts a piece of a file.
@@ -55,12 +54,11 @@ pub(crate) fn insert_piece<S: Alter>(
         → OnOk result (Pends v (seen S.Store tx.new) after) }
     ensures rest { GoesOnInside S.Store tx.old tx.new result }
 {
-    execute(
+    run(
         tx,
         "INSERT INTO pieces VALUES (?1, ?2, ?3, ?4)",
         params![box_name, name, part, bytes],
-    )?;
-    Ok(())
+    )
 }
 
 /// Deletes the pieces of a file.
@@ -73,12 +71,11 @@ pub(crate) fn delete_pieces<S: Alter>(
         (λ tables. without_pieces tables (placed box_name.now name.now)) }
     ensures rest { GoesOnInside S.Store tx.old tx.new result }
 {
-    execute(
+    run(
         tx,
         "DELETE FROM pieces WHERE box = ?1 AND name = ?2",
         params![box_name, name],
-    )?;
-    Ok(())
+    )
 }
 
 /// Updates the totals of a box.
@@ -94,12 +91,11 @@ pub(crate) fn update_totals<S: Alter>(
         (with_box tables name.now (with_totals sum count b))) }
     ensures rest { GoesOnInside S.Store tx.old tx.new result }
 {
-    execute(
+    run(
         tx,
         "UPDATE boxes SET used = ?2, count = ?3 WHERE name = ?1",
         params![name, used, count],
-    )?;
-    Ok(())
+    )
 }
 
 /// Inserts all pieces of a file that has none.
@@ -137,12 +133,11 @@ pub(crate) fn insert_file<S: Alter>(
         (with_file tables (placed box_name.now name.now) receipt)) }
     ensures rest { GoesOnInside S.Store tx.old tx.new result }
 {
-    execute(
+    run(
         tx,
         "INSERT INTO files VALUES (?1, ?2, ?3)",
         params![box_name, name, receipt],
-    )?;
-    Ok(())
+    )
 }
 
 /// Updates the receipt of an existing file.
@@ -158,12 +153,11 @@ pub(crate) fn update_file<S: Alter>(
         (with_file tables (placed box_name.now name.now) receipt)) }
     ensures rest { GoesOnInside S.Store tx.old tx.new result }
 {
-    execute(
+    run(
         tx,
         "UPDATE files SET receipt = ?3 WHERE box = ?1 AND name = ?2",
         params![box_name, name, receipt],
-    )?;
-    Ok(())
+    )
 }
 
 /// Inserts an unrevoked key.
@@ -183,12 +177,11 @@ pub(crate) fn insert_key<S: Alter>(
         Role::Link => 0,
         Role::Clerk => 1,
     };
-    execute(
+    run(
         tx,
         "INSERT INTO keys VALUES (?1, ?2, ?3, 0)",
         params![id, number, secret],
-    )?;
-    Ok(())
+    )
 }
 
 /// Revokes a key.
@@ -199,8 +192,7 @@ pub(crate) fn update_revoked<S: Alter>(tx: &mut Transaction<'_, S>, id: &str) ->
         (with_key tables id.now (record key { revoked = true }))) }
     ensures rest { GoesOnInside S.Store tx.old tx.new result }
 {
-    execute(tx, "UPDATE keys SET revoked = 1 WHERE id = ?1", params![id])?;
-    Ok(())
+    run(tx, "UPDATE keys SET revoked = 1 WHERE id = ?1", params![id])
 }
 
 /// Updates the moment at which a box closes for good, in seconds since 1970-01-01T00:00:00Z.
@@ -215,12 +207,11 @@ pub(crate) fn update_closes<S: Alter>(
         (with_box tables name.now (closing_at second b))) }
     ensures rest { GoesOnInside S.Store tx.old tx.new result }
 {
-    execute(
+    run(
         tx,
         "UPDATE boxes SET closes = ?2 WHERE name = ?1",
         params![name, moment],
-    )?;
-    Ok(())
+    )
 }
 
 /// Deletes the row of a file. Its pieces were deleted before.
@@ -233,12 +224,11 @@ pub(crate) fn delete_file<S: Alter>(
         (λ tables. without_file tables (placed in_box.now name.now)) }
     ensures rest { GoesOnInside S.Store tx.old tx.new result }
 {
-    execute(
+    run(
         tx,
         "DELETE FROM files WHERE box = ?1 AND name = ?2",
         params![in_box, name],
-    )?;
-    Ok(())
+    )
 }
 
 /// Inserts a box that a key is limited to.
@@ -253,12 +243,11 @@ pub(crate) fn insert_limit<S: Alter>(
         (with_limit tables (record { key = id.now; box = in_box.now }))) }
     ensures rest { GoesOnInside S.Store tx.old tx.new result }
 {
-    execute(
+    run(
         tx,
         "INSERT INTO key_box VALUES (?1, ?2)",
         params![id, in_box],
-    )?;
-    Ok(())
+    )
 }
 
 /// Updates how many seconds early a link may begin.
@@ -270,6 +259,5 @@ pub(crate) fn update_allowance<S: Alter>(
         → OnOk result (Pends v2 (seen S.Store tx.new) (with_allowance tables seconds)) }
     ensures rest { GoesOnInside S.Store tx.old tx.new result }
 {
-    execute(tx, "UPDATE rules SET allowance = ?1", params![seconds])?;
-    Ok(())
+    run(tx, "UPDATE rules SET allowance = ?1", params![seconds])
 }

@@ -10,3 +10,4 @@ pub mod Emptied
 pub mod Reopened
 pub mod NextTexts
 pub mod FileChanges
+pub mod RolledBack

@@ -1,6 +1,6 @@
 //! The keeper over an office file.
 
-ghost use Rattle.std.specs.Prelude.{◌≡◌, ◌≢◌, ◌↔◌, ◌⊎◌, [], pos, neg_ℤ, ◌≤ℤ◌, Ok, IfOk, IfErr, IsErr, OnOk, IsTrue, ⊤};
+ghost use Rattle.std.specs.Prelude.{◌≡◌, ◌≢◌, ◌↔◌, ◌⊎◌, [], pos, neg_ℤ, ◌≤ℤ◌, Ok, IfOk, IfErr, IsErr, IsTrue, ⊤};
 ghost use Rattle.sigv4.specs.Credential.{IsKeyId, IsSecret};
 ghost use Rattle.boxes.specs.FirstState.{first_state};
 ghost use Rattle.boxes.specs.State.{State};

@@ -1,9 +1,10 @@
 -- The bytes of a file, given by the rows of its pieces.
-use Rattle.std.proofs.Common.{◌≡◌, inl, inr, ℕ, [], ◌∷◌, ◌*◌, List, length, Option, None, Some, arith, refl, sym, ap, ◌∙◌}
+use Rattle.std.proofs.Common.{◌≡◌, inl, inr, ℕ, [], ◌∷◌, ◌*◌, List, length, Option, None, Some, arith, refl, sym, ap, ◌∙◌, take, drop}
 use Rattle.std.specs.Prelude.{nat_lt}
 use Rattle.std.proofs.lemmas.Bool.{cases_Bool, ltb-false}
 use Rattle.sqlite_value.specs.Order.{Row}
 use Rattle.boxes.specs.State.{Place}
+use Rattle.boxes.proofs.Lookups.{some_none}
 use Rattle.sqltables.specs.Tables.{Tables, RowsMean, IsPieceRow, piece_of}
 use Rattle.sqltables.specs.Pieces.{AreBytesOf}
 use Rattle.sqltables.specs.OneState.{same_pieces, one_piece}
@@ -20,7 +21,7 @@ module _ (tables : Tables) (rows : List Row) (place : Place) (bytes found : List
 
   no_more : (at : ℕ) → piece_of found at ≡ None → piece_of found at ≡ piece_of bytes at
   no_more at is = elim (cases_Bool (nat_lt (65536 * at) (length found))) [
-    | inl within ↦ absurd (let e = rw within at is in cc)
+    | inl within ↦ absurd (some_none (take 65536 (drop (65536 * at) found)) (rw within at is))
     | inr beyond ↦ is ∙ sym (no_piece bytes at (let e = ltb-false (65536 * at) (length found) beyond in let size = are.size_is in omega (arith, e, size)))
   ]
 

@@ -1,5 +1,6 @@
-use Rattle.std.proofs.Common.{◌≡◌, ◌⊎◌, inl, inr, Bool, IsTrue, MatchOption, refl, sym, subst, Option, Some, None}
+use Rattle.std.proofs.Common.{◌≡◌, ◌∙◌, ◌⊎◌, inl, inr, Bool, IsTrue, MatchOption, refl, sym, subst, Option, Some, None}
 use Rattle.std.specs.Prelude.{◌↔◌}
+use Rattle.std.proofs.lemmas.Bool.{false≢true}
 use Rattle.std.proofs.lemmas.List.{take_all}
 use Rattle.sigtext.specs.Bytes.{bytes_cmp}
 use Rattle.boxes.proofs.Lookups.{bytes_total, bytes_same}
@@ -37,7 +38,7 @@ returns-in_default c m all = refused (IsGood IsBoxEntry IsBoxRule) _ c.args.line
 pub returns-then-not-agrees : goal.returns-then-not-agrees
 returns-then-not-agrees c m all =
     let name = c.as_slice-name.result.now in
-    let first = taken (found bytes_cmp text_of c.loop-line.boxes.entries name) c.agrees.result (box_in c.in-Some.entry) c.agrees.ensures (λ t. let no = c.if-not-agrees.true in cc) in
+    let first = taken (found bytes_cmp text_of c.loop-line.boxes.entries name) c.agrees.result (box_in c.in-Some.entry) c.agrees.ensures (λ t. false≢true (sym c.if-not-agrees.true ∙ t)) in
     clashed bytes_cmp bytes_total bytes_same text_of box_in (IsGood IsBoxEntry IsBoxRule) one_box _ c.args.lines.now c.loop-line.line-index c.line-item.result c.loop-line.boxes.entries name c.in-Some.entry first.0
     c.loop-line.invariant c.loop-line-test.true (sym c.line-item.is)
     (subst (λ k. IsGood IsBoxEntry IsBoxRule c.line-item.result k (box_in c.in-Some.entry)) (sym c.as_slice-name.ensures.value) (rw c.in-Some.is at c.in_ok-entry.ensures)) first.1 first.2 all

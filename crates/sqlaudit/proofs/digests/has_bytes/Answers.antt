@@ -8,16 +8,28 @@ use Rattle.boxes.specs.State.{Place}
 use Rattle.sqlaudit.specs.Opened.{AreBytesFound, HasBytes, IsBare, IsNotBare, LacksBytes, place_in}
 use Rattle.sqlaudit.proofs.Digested.{told, told_empty, none_told}
 use Rattle.sqltables.proofs.Onward.{failed, refused, succeeded, weaker}
+use Rattle.sqlaudit.proofs.digests.has_bytes.Given as given
+use Rattle.sqlaudit.proofs.digests.has_bytes.Goals.{In-Ok}
 use Rattle.sqlaudit.proofs.digests.has_bytes.Goals as goal
+
+module _ (g : given.Over) (c : In-Ok g) where
+  -- the texts are those of the file
+  place_is : record { box = c.in-Ok-Ok.in_box.now; name = c.in-Ok-Ok.name.now } ≡ place_in c.args.file.now
+  place_is =
+      let box : c.in-Ok-Ok.in_box.now ≡ c.args.file.now.in_box.items = search rules in
+      let name : c.in-Ok-Ok.name.now ≡ c.args.file.now.name.items = search rules in
+      λ i. record { box = box i; name = name i }
+
+  size_is : c.in-Some.given.now.length ≡ pos c.in-Ok.size
+  size_is = search rules
 
 pub returns-in_default-3-clause-read : goal.returns-in_default-3-clause-read
 returns-in_default-3-clause-read g c v ours has whole inside clean =
     let rows = (state g.S.Store c.args.tx.now.conn.now).now.trees 9 in
     let place : Place = record { box = c.in-Ok-Ok.in_box.now; name = c.in-Ok-Ok.name.now } in
-    let box : c.in-Ok-Ok.in_box.now ≡ c.args.file.now.in_box.items = search rules in
-    let name : c.in-Ok-Ok.name.now ≡ c.args.file.now.name.items = search rules in
-    let there : place ≡ place_in c.args.file.now = (λ i. record { box = box i; name = name i }) in
-    let size : c.in-Some.given.now.length ≡ pos c.in-Ok.size = search rules in
+    let sized = (goal.at.returns-in_default-3-clause-read g c).In-Ok in
+    let there = place_is g sized in
+    let size = size_is g sized in
     none_told rows c.args.receipts.now c.args.file.now c.in-Some.given.now c.in-Some.ensures c.in-Ok.size size place there
     (subst (AreBytesFound rows place c.in-Ok.size) c.in_default-3.is (c.in_ok-bytes.ensures.read v ours has whole inside clean))
 
@@ -28,10 +40,9 @@ returns-then-size-eq0-clause-read g c v ours has whole inside clean =
     let file = c.args.file.now in
     let given = c.in-Some.given.now in
     let place : Place = record { box = c.in-Ok-Ok.in_box.now; name = c.in-Ok-Ok.name.now } in
-    let box : c.in-Ok-Ok.in_box.now ≡ c.args.file.now.in_box.items = search rules in
-    let name : c.in-Ok-Ok.name.now ≡ c.args.file.now.name.items = search rules in
-    let there : place ≡ place_in c.args.file.now = (λ i. record { box = box i; name = name i }) in
-    let size : given.length ≡ pos c.in-Ok.size = search rules in
+    let sized = (goal.at.returns-then-size-eq0-clause-read g c).In-Ok in
+    let there = place_is g sized in
+    let size = size_is g sized in
     let none : c.in-Ok.size ≡ 0 = search rules in
     IfOk-weaker c.is_bare.result (λ b. MatchBool b (IsBare rows place given) (IsNotBare rows place given)) (λ b. MatchBool b (HasBytes rows receipts file) (LacksBytes rows receipts file))
     (told_empty rows receipts file given c.in-Some.ensures c.in-Ok.size size place there none) (c.is_bare.ensures.read v ours has whole inside clean)
@@ -40,10 +51,9 @@ pub returns-clause-read : goal.returns-clause-read
 returns-clause-read g c v ours has whole inside clean =
     let rows = (state g.S.Store c.args.tx.now.conn.now).now.trees 9 in
     let place : Place = record { box = c.in-Ok-Ok.in_box.now; name = c.in-Ok-Ok.name.now } in
-    let box : c.in-Ok-Ok.in_box.now ≡ c.args.file.now.in_box.items = search rules in
-    let name : c.in-Ok-Ok.name.now ≡ c.args.file.now.name.items = search rules in
-    let there : place ≡ place_in c.args.file.now = (λ i. record { box = box i; name = name i }) in
-    let size : c.in-Some.given.now.length ≡ pos c.in-Ok.size = search rules in
+    let sized = (goal.at.returns-clause-read g c).In-Ok in
+    let there = place_is g sized in
+    let size = size_is g sized in
     let are = subst (AreBytesFound rows place c.in-Ok.size) c.in-Some-2.is (c.in_ok-bytes.ensures.read v ours has whole inside clean) in
     let octets = subst AreBytes c.deref-3.ensures.value c.have_digest.ensures.octets in
     let full : 0 < c.in-Ok.size = search rules in

@@ -1,6 +1,6 @@
 use Rattle.std.proofs.Common.{◌≡◌, ◌∙◌, ◌∷◌, ◌++◌, inl, inr, ℕ, [], true, false, sym, ap, subst, Some, refl}
 use Rattle.std.specs.Prelude.{MatchBool, nat_eq, option_map}
-use Rattle.std.proofs.lemmas.Bool.{eqb-true, eq-eqb}
+use Rattle.std.proofs.lemmas.Bool.{eqb-true, eq-eqb, false≢true}
 use Rattle.boxes.specs.State.{Place, place_cmp}
 use Rattle.boxes.proofs.Lookups.{place_total}
 use Rattle.boxes.proofs.FileTotals.{place_same}
@@ -28,7 +28,7 @@ returns-in-Some-2 c rs before h old =
           )
       | false ↦ λ e. λ look all.
           clashed_among place_cmp place_total place_same spot_of (λ (n : ℕ). n) (IsFiled rs) (one_filed rs) look before line c.args.files.now.entries k number first old.0 made.0 stood
-          (λ same. let is = eq-eqb first number same in cc) all
+          (λ same. false≢true (sym e ∙ eq-eqb first number same)) all
     ] refl
 
 pub returns-in_ok-add_file-in-None : goal.returns-in_ok-add_file-in-None

@@ -1,4 +1,5 @@
 use Rattle.std.proofs.Common.{◌∙◌, inl, inr, sym, subst}
+use Rattle.std.proofs.lemmas.Bool.{false≢true}
 use Rattle.std.proofs.lemmas.List.{take_all}
 use Rattle.sigtext.specs.Bytes.{bytes_cmp}
 use Rattle.boxes.proofs.Lookups.{bytes_total, bytes_same}
@@ -29,7 +30,7 @@ pub returns-then-not-is_same_key : goal.returns-then-not-is_same_key
 returns-then-not-is_same_key c m all =
     clashed bytes_cmp bytes_total bytes_same text_of key_in (IsGood IsKeyEntry IsKeyRule) one_key _ c.args.lines.now c.loop-line.line-index c.line-item.result c.loop-line.keys.entries c.as_slice.result.now c.in-Some.key c.in-Some-2.first c.loop-line.invariant c.loop-line-test.true (sym c.line-item.is)
     (subst (λ k. IsGood IsKeyEntry IsKeyRule c.line-item.result k (key_in c.in-Some.key)) (sym c.as_slice.ensures.value) c.in-Some.ensures)
-    (sym c.in_ok-first.ensures.old ∙ c.in-Some-2.is) (λ e. let is = c.is_same_key.ensures.1 e in let not_is = c.if-not-is_same_key.true in cc) all
+    (sym c.in_ok-first.ensures.old ∙ c.in-Some-2.is) (λ e. false≢true (sym c.if-not-is_same_key.true ∙ c.is_same_key.ensures.1 e)) all
 
 pub returns : goal.returns
 returns c = subst (λ xs. AreIn bytes_cmp text_of key_in (IsGood IsKeyEntry IsKeyRule) xs c.loop-line.keys.entries) (take_all c.loop-line.line-index c.args.lines.now c.loop-line-test.false) c.loop-line.invariant

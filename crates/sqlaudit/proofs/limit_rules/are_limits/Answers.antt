@@ -1,6 +1,7 @@
-use Rattle.std.proofs.Common.{subst, sym, refl}
+use Rattle.std.proofs.Common.{◌∙◌, subst, sym, refl}
 use Rattle.std.specs.Prelude.{Contains}
 use Rattle.std.specs.FinMap.{FinMap}
+use Rattle.std.proofs.lemmas.Bool.{false≢true}
 use Rattle.std.proofs.lemmas.List.{take_all}
 use Rattle.sigtext.specs.Bytes.{bytes_cmp}
 use Rattle.boxes.specs.State.{Key}
@@ -24,8 +25,8 @@ loop-line-preserved c ks bs hk hb =
 
 pub returns-then-not-is_limit : goal.returns-then-not-is_limit
 returns-then-not-is_limit c ks bs hk hb = (
-  λ t. absurd (let no = t in cc),
-  λ all. let is = (c.is_limit.ensures ks bs hk hb).1 (all c.line-item.result (has_at c.args.lines.now c.loop-line.line-index c.line-item.result c.loop-line-test.true (sym c.line-item.is))) in let no = c.if-not-is_limit.true in cc,
+  λ t. absurd (false≢true t),
+  λ all. sym c.if-not-is_limit.true ∙ (c.is_limit.ensures ks bs hk hb).1 (all c.line-item.result (has_at c.args.lines.now c.loop-line.line-index c.line-item.result c.loop-line-test.true (sym c.line-item.is))),
 )
 
 pub returns : goal.returns

@@ -1,5 +1,6 @@
-use Rattle.std.proofs.Common.{◌≡◌, ℤ, pos, get_or, subst, sym, refl}
+use Rattle.std.proofs.Common.{◌≡◌, ◌∙◌, ℤ, pos, get_or, subst, sym, refl}
 use Rattle.std.specs.Prelude.{Contains}
+use Rattle.std.proofs.lemmas.Bool.{false≢true}
 use Rattle.std.proofs.lemmas.List.{take_all}
 use Rattle.sqlaudit.specs.declared.lines.RulesLine.{RulesLine}
 use Rattle.sqlaudit.proofs.Entries.{each_more, none_before, has_at}
@@ -20,9 +21,8 @@ loop-line-preserved c =
 pub returns-then-not-is_rules_line : goal.returns-then-not-is_rules_line
 returns-then-not-is_rules_line c =
     let line = get_or c.args.lines.now c.loop-line.line-index no_rules_line in (
-      λ t. absurd (let no = t in cc),
-      λ all. let is = c.is_rules_line.ensures.1 (all line (has_at c.args.lines.now c.loop-line.line-index line c.loop-line-test.true (rules_again c.args.lines.now c.loop-line.line-index c.loop-line-test.true))) in
-          let no = c.if-not-is_rules_line.true in cc,
+      λ t. absurd (false≢true t),
+      λ all. sym c.if-not-is_rules_line.true ∙ c.is_rules_line.ensures.1 (all line (has_at c.args.lines.now c.loop-line.line-index line c.loop-line-test.true (rules_again c.args.lines.now c.loop-line.line-index c.loop-line-test.true))),
     )
 
 pub returns : goal.returns

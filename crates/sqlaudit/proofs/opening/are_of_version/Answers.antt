@@ -1,4 +1,5 @@
-use Rattle.std.proofs.Common.{◌≡◌, ℤ, get_or, subst, sym, refl}
+use Rattle.std.proofs.Common.{◌≡◌, ℤ, get_or, subst, sym, refl, ◌∙◌}
+use Rattle.std.proofs.lemmas.Bool.{false≢true}
 use Rattle.std.specs.Prelude.{Contains}
 use Rattle.std.proofs.lemmas.List.{take_all}
 use Rattle.sqlaudit.specs.declared.lines.OfficeLine.{OfficeLine}
@@ -20,9 +21,8 @@ loop-line-preserved c =
 pub returns-then-not-is_of_version : goal.returns-then-not-is_of_version
 returns-then-not-is_of_version c =
     let line = get_or c.args.lines.now c.loop-line.line-index no_line in (
-      λ t. absurd (let no = t in cc),
-      λ all. let is = c.is_of_version.ensures.1 (all line (has_at c.args.lines.now c.loop-line.line-index line c.loop-line-test.true (read_again c.args.lines.now c.loop-line.line-index c.loop-line-test.true))) in
-          let no = c.if-not-is_of_version.true in cc,
+      λ t. absurd (false≢true t),
+      λ all. sym c.if-not-is_of_version.true ∙ c.is_of_version.ensures.1 (all line (has_at c.args.lines.now c.loop-line.line-index line c.loop-line-test.true (read_again c.args.lines.now c.loop-line.line-index c.loop-line-test.true))),
     )
 
 pub returns : goal.returns

@@ -1,4 +1,5 @@
 use Rattle.std.proofs.Common.{◌≡◌, ◌∙◌, IsTrue, true, false, refl, sym, subst}
+use Rattle.std.proofs.lemmas.Bool.{false≢true}
 use Rattle.std.specs.Prelude.{Contains, MatchBool, MatchOption}
 use Rattle.sqlite.specs.Held.{state}
 use Rattle.boxes.specs.State.{State as Office}
@@ -26,7 +27,7 @@ returns-then-not-fit_version-clause-found g c has whole running clean lines rowi
     let lent : Lines = record { office = c.args.office; keys = c.deref.result; boxes = c.deref-2.result; receipts = c.deref-3.result; rules = c.deref-4.result; limits = c.deref-5.result } in
     let is : AreLent lent c.args.office.now c.args.listed.now = record { office = refl; keys = c.deref.ensures.value; boxes = c.deref-2.ensures.value; receipts = c.deref-3.ensures.value; rules = c.deref-4.ensures.value; limits = c.deref-5.ensures.value } in
     let are = are_listed v db lent c.args.office.now c.args.listed.now is lines rowids tables in
-    unfit v ours db lent c.args.office.now c.args.listed.now is are (λ fits. let yes = c.fit_version.ensures.1 fits in let no = c.if-not-fit_version.true in cc)
+    unfit v ours db lent c.args.office.now c.args.listed.now is are (λ fits. false≢true (sym c.if-not-fit_version.true ∙ c.fit_version.ensures.1 fits))
 
 pub returns-then-not-sound-clause-found : goal.returns-then-not-sound-clause-found
 returns-then-not-sound-clause-found g c has whole running clean lines rowids of tables =

@@ -1,4 +1,5 @@
-use Rattle.std.proofs.Common.{slice_get, subst, sym, refl}
+use Rattle.std.proofs.Common.{slice_get, subst, sym, refl, ◌∙◌}
+use Rattle.std.proofs.lemmas.Bool.{false≢true}
 use Rattle.std.specs.Prelude.{Contains}
 use Rattle.std.proofs.lemmas.List.{take_all}
 use Rattle.sqlaudit.specs.Outlines.{IsPieceIn}
@@ -15,8 +16,8 @@ loop-line-preserved c rs m hr hf =
 
 pub returns-then-not-is_piece : goal.returns-then-not-is_piece
 returns-then-not-is_piece c rs m hr hf = (
-  λ t. absurd (let no = t in cc),
-  λ all. let is = (c.is_piece.ensures rs m hr hf).1 (all c.line-item.result (has_at c.args.lines.now c.loop-line.line-index c.line-item.result c.loop-line-test.true (sym c.line-item.is))) in let no = c.if-not-is_piece.true in cc,
+  λ t. absurd (false≢true t),
+  λ all. sym c.if-not-is_piece.true ∙ (c.is_piece.ensures rs m hr hf).1 (all c.line-item.result (has_at c.args.lines.now c.loop-line.line-index c.line-item.result c.loop-line-test.true (sym c.line-item.is))),
 )
 
 pub returns : goal.returns

@@ -1,4 +1,5 @@
 use Rattle.std.proofs.Common.{◌≡◌, ◌∙◌, false, pos, sym, ap, subst, refl}
+use Rattle.std.proofs.lemmas.Bool.{false≢true}
 use Rattle.std.specs.Prelude.{Contains}
 use Rattle.std.proofs.lemmas.List.{take_all}
 use Rattle.boxes.specs.declared.rows.Role.TheVariants.{Clerk}
@@ -14,7 +15,7 @@ loop-line-init c = none_before (λ (l : KeyLine). (l.role ≡ pos 1) × (l.revok
 pub loop-line-preserved : goal.loop-line-preserved
 loop-line-preserved c =
     each_more (λ (l : KeyLine). (l.role ≡ pos 1) × (l.revoked ≡ pos 0) → ⊥) c.args.lines.now c.loop-line.line-index c.line-item.result c.loop-line.invariant c.loop-line-test.true (sym c.line-item.is)
-    (λ h. let is = c.is_clerk.ensures.1 h in let no = c.if-is_clerk.false in cc)
+    (λ h. false≢true (sym c.if-is_clerk.false ∙ c.is_clerk.ensures.1 h))
 
 pub returns-then-is_clerk : goal.returns-then-is_clerk
 returns-then-is_clerk c ks es = (
@@ -27,7 +28,7 @@ returns-then-is_clerk c ks es = (
 
 pub returns : goal.returns
 returns c ks es = (
-  λ t. absurd (let no = t in cc),
+  λ t. absurd (false≢true t),
   λ clerk.
       let l = es.all clerk.id clerk.key clerk.there in
       absurd (c.loop-line.invariant l.0 (subst (λ xs. Contains xs l.0) (sym (take_all c.loop-line.line-index c.args.lines.now c.loop-line-test.false)) l.1)

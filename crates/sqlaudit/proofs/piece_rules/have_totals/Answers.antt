@@ -1,4 +1,5 @@
-use Rattle.std.proofs.Common.{subst, sym, refl}
+use Rattle.std.proofs.Common.{subst, sym, refl, ◌∙◌}
+use Rattle.std.proofs.lemmas.Bool.{false≢true}
 use Rattle.std.specs.Prelude.{Contains}
 use Rattle.std.proofs.lemmas.List.{take_all}
 use Rattle.sqlaudit.specs.Sorting.{HasTotals}
@@ -15,8 +16,8 @@ loop-line-preserved c rs m hs =
 
 pub returns-then-not-has_totals : goal.returns-then-not-has_totals
 returns-then-not-has_totals c rs m hs = (
-  λ t. absurd (let no = t in cc),
-  λ all. let is = (c.has_totals.ensures rs m hs).1 (all c.line-item.result (has_at c.args.lines.now c.loop-line.line-index c.line-item.result c.loop-line-test.true (sym c.line-item.is))) in let no = c.if-not-has_totals.true in cc,
+  λ t. absurd (false≢true t),
+  λ all. sym c.if-not-has_totals.true ∙ (c.has_totals.ensures rs m hs).1 (all c.line-item.result (has_at c.args.lines.now c.loop-line.line-index c.line-item.result c.loop-line-test.true (sym c.line-item.is))),
 )
 
 pub returns : goal.returns

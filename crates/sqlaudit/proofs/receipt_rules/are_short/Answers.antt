@@ -1,4 +1,5 @@
-use Rattle.std.proofs.Common.{◌≤ℤ◌, pos, subst, sym, refl}
+use Rattle.std.proofs.Common.{◌≤ℤ◌, pos, subst, sym, refl, ◌∙◌}
+use Rattle.std.proofs.lemmas.Bool.{false≢true}
 use Rattle.std.specs.Prelude.{Contains}
 use Rattle.std.proofs.lemmas.List.{take_all}
 use Rattle.sqlaudit.specs.declared.lines.ReceiptLine.{ReceiptLine}
@@ -19,9 +20,8 @@ loop-line-preserved c =
 
 pub returns-then-not-is_short : goal.returns-then-not-is_short
 returns-then-not-is_short c = (
-  λ t. absurd (let no = t in cc),
-  λ all. let is = c.is_short.ensures.1 (all c.line-item.result (has_at c.args.lines.now c.loop-line.line-index c.line-item.result c.loop-line-test.true (sym c.line-item.is))) in
-      let no = c.if-not-is_short.true in cc,
+  λ t. absurd (false≢true t),
+  λ all. sym c.if-not-is_short.true ∙ c.is_short.ensures.1 (all c.line-item.result (has_at c.args.lines.now c.loop-line.line-index c.line-item.result c.loop-line-test.true (sym c.line-item.is))),
 )
 
 pub returns : goal.returns

@@ -1,21 +1,21 @@
 use Rattle.std.proofs.Common.{◌≡◌, ◌∙◌, sym, refl, subst}
+use Rattle.std.proofs.lemmas.Bool.{false≢true}
 use Rattle.sqlaudit.specs.Outlines.{IsOfficeEntry}
 use Rattle.sqlaudit.proofs.OfficeEntries.{first_there, none_there, offset_of, same_offset}
 use Rattle.sqlaudit.proofs.rules.is_office.Goals as goal
 
 pub returns-in_default : goal.returns-in_default
 returns-in_default c = (
-  λ t. absurd (let no = t in cc),
+  λ t. absurd (false≢true t),
   λ o. absurd (none_there c.args.lines.now (sym c.in_default.ensures.value ∙ refl) o.0 o.1),
 )
 
 pub returns-then-not-is_offset : goal.returns-then-not-is_offset
 returns-then-not-is_offset c = (
-  λ t. absurd (let no = t in cc),
+  λ t. absurd (false≢true t),
   λ o.
       let there = first_there c.args.lines.now c.in-Some.first.now (sym c.in-Some.ensures.value) in
-      let is = c.is_offset.ensures.1 (offset_of c.args.lines.now c.in-Some.first.now o.0 there o.1 o.2) in
-      let no = c.if-not-is_offset.true in cc,
+      sym c.if-not-is_offset.true ∙ c.is_offset.ensures.1 (offset_of c.args.lines.now c.in-Some.first.now o.0 there o.1 o.2),
 )
 
 pub returns : goal.returns

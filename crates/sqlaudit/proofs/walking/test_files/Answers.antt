@@ -16,7 +16,29 @@ use Rattle.sqlaudit.proofs.LongTexts.{files_between, file_shown}
 use Rattle.sqlaudit.proofs.PortionRows.{ReadsOn, GoesFrom, none_read, portioned_goes}
 use Rattle.sqlaudit.proofs.WalkedFiles.{OpensWhole, opens_files, seen_then, unfiled_portion, lacking_portion, walked_on, all_walked}
 use Rattle.sqltables.proofs.Onward.{and_then, failed, succeeded}
+use Rattle.sqlaudit.proofs.walking.test_files.Given as given
+use Rattle.sqlaudit.proofs.walking.test_files.Goals.{In_ok-lines}
 use Rattle.sqlaudit.proofs.walking.test_files.Goals as goal
+
+module _ (g : given.Over) (c : In_ok-lines g) where
+  -- the files of this portion were read
+  reads_on : ReadsOn IsFileLine files_between (state g.S.Store c.loop-at.tx.conn.now) (state g.S.Store c.list_between.new.tx.conn.now) (get_or c.args.numbers.now c.loop-at.at (pos 0)) (get_or c.args.numbers.now (c.loop-at.at + c.min.result - 1) (pos 0)) c.in_ok-lines.lines.items
+  reads_on =
+      let numbers = c.args.numbers.now in
+      let at = c.loop-at.at in
+      let end = at + c.min.result in
+      let first : to_z w64 (of_z w64 (get_or numbers at (pos 0))) ≡ get_or numbers at (pos 0) = search rules in
+      let last : to_z w64 (of_z w64 (get_or numbers (end - 1) (pos 0))) ≡ get_or numbers (end - 1) (pos 0) = search rules in
+      record {
+        read = rw (first, last) at c.in_ok-lines.ensures.read;
+        running = c.in_ok-lines.ensures.rest.running;
+        uncommitted = c.list_between.ensures.rest.uncommitted;
+        survives = c.list_between.ensures.rest.survives;
+      }
+
+  -- the portion ends within the rowids
+  ends_within : c.loop-at.at + c.min.result ≤ length c.args.numbers.now
+  ends_within = search rules
 
 pub loop-at-init : goal.loop-at-init
 loop-at-init g c =
@@ -39,15 +61,9 @@ returns-then-not-branch-clause-read g c rs held are v ours schema whole running 
     let at = c.loop-at.at in
     let end = at + c.min.result in
     let more = c.in_ok-lines.lines.items in
-    let first : to_z w64 (of_z w64 (get_or numbers at (pos 0))) ≡ get_or numbers at (pos 0) = search rules in
-    let last : to_z w64 (of_z w64 (get_or numbers (end - 1) (pos 0))) ≡ get_or numbers (end - 1) (pos 0) = search rules in
-    let next : ReadsOn IsFileLine files_between mid now (get_or numbers at (pos 0)) (get_or numbers (end - 1) (pos 0)) more = record {
-      read = rw (first, last) at c.in_ok-lines.ensures.read;
-      running = c.in_ok-lines.ensures.rest.running;
-      uncommitted = c.list_between.ensures.rest.uncommitted;
-      survives = c.list_between.ensures.rest.survives;
-    } in
-    let within : end ≤ length numbers = search rules in
+    let lines = (goal.at.returns-then-not-branch-clause-read g c).In_ok-lines in
+    let next = reads_on g lines in
+    let within = ends_within g lines in
     let w = c.loop-at.invariant.1 in
     let unfiled = subst (λ b. MatchBool b (AreFiled rs (w.done ++ c.deref.result.now) c.add_lines.new.files c.add_lines.new.sums) (AreUnfiled rs (w.done ++ c.deref.result.now))) c.if-not-branch.true
     (c.in_ok-add_lines.ensures rs w.done held (w.filed rs held)) in
@@ -63,15 +79,9 @@ returns-then-not-branch-clause-same g c v ours schema whole running clean =
     let at = c.loop-at.at in
     let end = at + c.min.result in
     let more = c.in_ok-lines.lines.items in
-    let first : to_z w64 (of_z w64 (get_or numbers at (pos 0))) ≡ get_or numbers at (pos 0) = search rules in
-    let last : to_z w64 (of_z w64 (get_or numbers (end - 1) (pos 0))) ≡ get_or numbers (end - 1) (pos 0) = search rules in
-    let next : ReadsOn IsFileLine files_between mid now (get_or numbers at (pos 0)) (get_or numbers (end - 1) (pos 0)) more = record {
-      read = rw (first, last) at c.in_ok-lines.ensures.read;
-      running = c.in_ok-lines.ensures.rest.running;
-      uncommitted = c.list_between.ensures.rest.uncommitted;
-      survives = c.list_between.ensures.rest.survives;
-    } in
-    let within : end ≤ length numbers = search rules in
+    let lines = (goal.at.returns-then-not-branch-clause-same g c).In_ok-lines in
+    let next = reads_on g lines in
+    let within = ends_within g lines in
     (seen_then entry mid now c.args.receipts.now numbers at end c.loop-at.files c.loop-at.sums c.loop-at.invariant.1 more next within v (record { version = ours; schema = schema; whole = whole; running = running }) clean).same
 
 pub returns-then-not-branch-2-clause-read : goal.returns-then-not-branch-2-clause-read
@@ -85,15 +95,9 @@ returns-then-not-branch-2-clause-read g c rs held are v ours schema whole runnin
     let at = c.loop-at.at in
     let end = at + c.min.result in
     let more = c.in_ok-lines.lines.items in
-    let first : to_z w64 (of_z w64 (get_or numbers at (pos 0))) ≡ get_or numbers at (pos 0) = search rules in
-    let last : to_z w64 (of_z w64 (get_or numbers (end - 1) (pos 0))) ≡ get_or numbers (end - 1) (pos 0) = search rules in
-    let next : ReadsOn IsFileLine files_between mid now (get_or numbers at (pos 0)) (get_or numbers (end - 1) (pos 0)) more = record {
-      read = rw (first, last) at c.in_ok-lines.ensures.read;
-      running = c.in_ok-lines.ensures.rest.running;
-      uncommitted = c.list_between.ensures.rest.uncommitted;
-      survives = c.list_between.ensures.rest.survives;
-    } in
-    let within : end ≤ length numbers = search rules in
+    let lines = (goal.at.returns-then-not-branch-2-clause-read g c).In_ok-lines in
+    let next = reads_on g lines in
+    let within = ends_within g lines in
     let goes : GoesFrom now then = record {
       uncommitted = c.have_bytes.ensures.rest.uncommitted;
       survives = c.have_bytes.ensures.rest.survives;
@@ -117,15 +121,9 @@ returns-then-not-branch-2-clause-same g c v ours schema whole running clean =
     let at = c.loop-at.at in
     let end = at + c.min.result in
     let more = c.in_ok-lines.lines.items in
-    let first : to_z w64 (of_z w64 (get_or numbers at (pos 0))) ≡ get_or numbers at (pos 0) = search rules in
-    let last : to_z w64 (of_z w64 (get_or numbers (end - 1) (pos 0))) ≡ get_or numbers (end - 1) (pos 0) = search rules in
-    let next : ReadsOn IsFileLine files_between mid now (get_or numbers at (pos 0)) (get_or numbers (end - 1) (pos 0)) more = record {
-      read = rw (first, last) at c.in_ok-lines.ensures.read;
-      running = c.in_ok-lines.ensures.rest.running;
-      uncommitted = c.list_between.ensures.rest.uncommitted;
-      survives = c.list_between.ensures.rest.survives;
-    } in
-    let within : end ≤ length numbers = search rules in
+    let lines = (goal.at.returns-then-not-branch-2-clause-same g c).In_ok-lines in
+    let next = reads_on g lines in
+    let within = ends_within g lines in
     let goes : GoesFrom now then = record {
       uncommitted = c.have_bytes.ensures.rest.uncommitted;
       survives = c.have_bytes.ensures.rest.survives;
@@ -147,15 +145,9 @@ loop-at-preserved g c =
     let at = c.loop-at.at in
     let end = at + c.min.result in
     let more = c.in_ok-lines.lines.items in
-    let first : to_z w64 (of_z w64 (get_or numbers at (pos 0))) ≡ get_or numbers at (pos 0) = search rules in
-    let last : to_z w64 (of_z w64 (get_or numbers (end - 1) (pos 0))) ≡ get_or numbers (end - 1) (pos 0) = search rules in
-    let next : ReadsOn IsFileLine files_between mid now (get_or numbers at (pos 0)) (get_or numbers (end - 1) (pos 0)) more = record {
-      read = rw (first, last) at c.in_ok-lines.ensures.read;
-      running = c.in_ok-lines.ensures.rest.running;
-      uncommitted = c.list_between.ensures.rest.uncommitted;
-      survives = c.list_between.ensures.rest.survives;
-    } in
-    let within : end ≤ length numbers = search rules in
+    let lines = (goal.at.loop-at-preserved g c).In_ok-lines in
+    let next = reads_on g lines in
+    let within = ends_within g lines in
     let goes : GoesFrom now then = record {
       uncommitted = c.have_bytes.ensures.rest.uncommitted;
       survives = c.have_bytes.ensures.rest.survives;

@@ -6,14 +6,14 @@ use Rattle.sqlite_value.specs.declared.value.Value.TheVariants.{Int, Text}
 use Rattle.sqlite_value.specs.Order.{Row}
 use Rattle.sqltables.proofs.Texts.{insert_box, insert_box_command, insert_box_is}
 use Rattle.sqlchanges.proofs.BoxRows.{given_box, puts_box}
+use Rattle.sqlchanges.proofs.Ran.{ran_then}
 use Rattle.sqlchanges.proofs.box_rows.insert_values.Goals as goal
 
 pub returns-clause-done : goal.returns-clause-done
-returns-clause-done g c v tables b ours pends free are clean inside is_open =
+returns-clause-done g c v tables b ours pends free are = ran_then c.run.result c.run.ensures.ran (λ clean run inside is_open.
     let old = state g.S.Store c.args.tx.now.conn.now in
-    let new = state g.S.Store c.execute.new.tx.conn.now in
-    let was_in = (c.in_ok-execute.ensures.ran clean).0 in
-    let early : HasCleanDisk old = omega (arith, c.execute.ensures.rest.survives.clean) in
+    let new = state g.S.Store c.run.new.tx.conn.now in
+    let early : HasCleanDisk old = omega (arith, c.run.ensures.rest.survives.clean) in
     let ran = rw (
       c.params-to_sql.ensures,
       c.params-to_sql-2.ensures,
@@ -26,8 +26,8 @@ returns-clause-done g c v tables b ours pends free are clean inside is_open =
       c.params-to_sql-9.ensures,
       c.params-to_sql-10.ensures,
       c.params-to_sql-11.ensures,
-    ) at (c.in_ok-execute.ensures.ran clean).1 in
-    let it = pends early was_in ran.1.was_open in
+    ) at run.executed in
+    let it = pends early run.inside ran.1.was_open in
     let values = c.args.values.now in
     let opens : to_z w64 (of_z w64 values.opens) ≡ values.opens = search rules in
     let closes : to_z w64 (of_z w64 values.closes) ≡ values.closes = search rules in
@@ -42,5 +42,5 @@ returns-clause-done g c v tables b ours pends free are clean inside is_open =
     ∷ Int (to_z w64 (of_z w64 values.quota)) ∷ Int (to_z w64 (of_z w64 values.max_files)) ∷ Int (to_z w32 (of_z w32 values.mode)) ∷ Int (to_z w32 (of_z w32 values.kind)) ∷ Text values.text.now ∷ [] in
     let same : params ≡ given_box c.args.name.now b =
     rw (opens, closes, from_minute, to_minute, quota, max_files, mode, kind, are.opens, are.closes, are.days, are.from_minute, are.to_minute, are.quota, are.max_files, are.mode, are.kind, are.text) in
-    puts_box v (ours_of v ours) (says_of v ours insert_box insert_box_command insert_box_is) old new c.in_ok-execute.field-0 tables c.args.name.now b it.schema it.means free
-    (subst (λ p. Executes insert_box p old new (Ok c.in_ok-execute.field-0)) same ran.0)
+    puts_box v (ours_of v ours) (says_of v ours insert_box insert_box_command insert_box_is) old new run.count tables c.args.name.now b it.schema it.means free
+    (subst (λ p. Executes insert_box p old new (Ok run.count)) same ran.0))

@@ -1,7 +1,7 @@
 use Rattle.std.proofs.Common.{[], ◌∷◌}
 use Rattle.sqlite.specs.Held.{state}
 use Rattle.sqltables.specs.Schema.{s6, s7, s8, s9}
-use Rattle.sqlchanges.proofs.Chained.{goes_on_then}
+use Rattle.sqlchanges.proofs.Chained.{goes_on_then, failed}
 use Rattle.sqlchanges.proofs.Upgrades.{adds_rules, adds_limits, adds_staged, begins_more}
 use Rattle.sqlchanges.proofs.making.add_tables.Goals as goal
 
@@ -16,3 +16,11 @@ pub returns-clause-rest : goal.returns-clause-rest
 returns-clause-rest g c =
     let two = goes_on_then g.S.Store _ _ _ _ _ c.create_table.ensures.rest c.create_table-2.ensures.rest in
     goes_on_then g.S.Store _ _ _ _ _ two c.create_table-3.ensures.rest
+
+pub returns-in_err-create_table-clause-rest : goal.returns-in_err-create_table-clause-rest
+returns-in_err-create_table-clause-rest g c = failed c.from_residual.result c.create_table.ensures.rest c.from_residual.ensures.0
+
+pub returns-in_err-create_table-2-clause-rest : goal.returns-in_err-create_table-2-clause-rest
+returns-in_err-create_table-2-clause-rest g c =
+    let two = goes_on_then g.S.Store _ _ _ _ _ c.create_table.ensures.rest c.create_table-2.ensures.rest in
+    failed c.from_residual-in_err-create_table-2.result two c.from_residual-in_err-create_table-2.ensures.0

@@ -2,13 +2,13 @@ use Rattle.std.proofs.Common.{arith}
 use Rattle.sqlite.specs.State.{HasCleanDisk}
 use Rattle.sqlite.specs.Held.{state}
 use Rattle.sqlchanges.proofs.Upgrades.{puts_rules}
+use Rattle.sqlchanges.proofs.Ran.{ran_then}
 use Rattle.sqlchanges.proofs.making.insert_rules.Goals as goal
 
 pub returns-clause-done : goal.returns-clause-done
-returns-clause-done g c tables sees clean inside is_open =
+returns-clause-done g c tables sees = ran_then c.run.result c.run.ensures.ran (λ clean run inside is_open.
     let old = state g.S.Store c.args.tx.now.conn.now in
-    let new = state g.S.Store c.execute.new.tx.conn.now in
-    let was_in = (c.in_ok-execute.ensures.ran clean).0 in
-    let early : HasCleanDisk old = omega (arith, c.execute.ensures.rest.survives.clean) in
-    let ran = rw (c.params-to_sql.ensures) at (c.in_ok-execute.ensures.ran clean).1 in
-    puts_rules old new c.in_ok-execute.field-0 tables c.args.seconds (sees early was_in ran.1.was_open) ran.0
+    let new = state g.S.Store c.run.new.tx.conn.now in
+    let early : HasCleanDisk old = omega (arith, c.run.ensures.rest.survives.clean) in
+    let ran = rw (c.params-to_sql.ensures) at run.executed in
+    puts_rules old new run.count tables c.args.seconds (sees early run.inside ran.1.was_open) ran.0)

@@ -3,6 +3,7 @@ use Rattle.sqlite.specs.Held.{state}
 use Rattle.sqltables.specs.Schema.{v2}
 use Rattle.sqltables.specs.Changes.{with_allowance}
 use Rattle.sqltables.specs.Means.{Pends}
+use Rattle.sqlchanges.proofs.Chained.{failed, goes_on_then}
 use Rattle.sqlchanges.proofs.making.upgrade.Goals as goal
 
 pub returns-clause-done : goal.returns-clause-done
@@ -14,3 +15,16 @@ returns-clause-done g c tables pends =
 pub returns-clause-unstaged : goal.returns-clause-unstaged
 returns-clause-unstaged g c tables pends =
     c.update_version.ensures.unstaged tables c.seconds.result (c.in_ok-insert_rules.ensures.done tables (c.in_ok-add_tables.ensures.done tables pends))
+
+pub returns-in_err-add_tables-clause-rest : goal.returns-in_err-add_tables-clause-rest
+returns-in_err-add_tables-clause-rest g c = failed c.from_residual.result c.add_tables.ensures.rest c.from_residual.ensures.0
+
+pub returns-in_err-insert_rules-clause-rest : goal.returns-in_err-insert_rules-clause-rest
+returns-in_err-insert_rules-clause-rest g c =
+    let two = goes_on_then g.S.Store _ _ _ _ _ c.add_tables.ensures.rest c.insert_rules.ensures.rest in
+    failed c.from_residual-in_err-insert_rules.result two c.from_residual-in_err-insert_rules.ensures.0
+
+pub returns-clause-rest : goal.returns-clause-rest
+returns-clause-rest g c =
+    let two = goes_on_then g.S.Store _ _ _ _ _ c.add_tables.ensures.rest c.insert_rules.ensures.rest in
+    goes_on_then g.S.Store _ _ _ _ _ two c.update_version.ensures.rest

@@ -1,11 +1,14 @@
 use Rattle.std.proofs.Common.{◌≡◌, arith, sym, ap, subst, ◌∙◌}
+use Rattle.std.proofs.lemmas.Bool.{false≢true}
 use Rattle.sqlite.specs.Effect.{Database}
 use Rattle.sqlite.specs.State.{HasCleanDisk}
 use Rattle.sqlite.specs.Held.{state}
 use Rattle.sqltables.specs.Schema.{v2}
 use Rattle.sqltables.specs.Tables.{IsEmptied, NoneStaged}
 use Rattle.sqltables.specs.Inside.{HasSchema}
+use Rattle.sqltables.proofs.Onward.{begun_then, failed, followed, succeeded}
 use Rattle.sqlchanges.proofs.StagedRows.{emptied_itself}
+use Rattle.sqlchanges.proofs.Chained.{within}
 use Rattle.sqlchanges.proofs.staged.empty_staged.Goals as goal
 
 pub returns-then-not-branch-clause-emptied : goal.returns-then-not-branch-clause-emptied
@@ -37,8 +40,31 @@ returns-clause-emptied g c has inside clean =
 pub returns-clause-same : goal.returns-clause-same
 returns-clause-same g c has inside clean none =
     let asked = state g.S.Store c.has_staged.new.tx.conn.now in
-    let asked_clean : HasCleanDisk asked = omega (arith, clean, c.has_staged-2.ensures.rest.survives.clean, c.delete_staged.ensures.rest.survives.clean) in
-    absurd (let no = (c.in_ok-has_staged.ensures.found has inside asked_clean).1 none in let yes = c.if-not-branch.false in cc)
+    let mid = state g.S.Store c.delete_staged.new.tx.conn.now in
+    let mid_clean : HasCleanDisk mid = omega (arith, clean, c.has_staged-2.ensures.rest.survives.clean) in
+    let asked_clean : HasCleanDisk asked = omega (arith, mid_clean, c.delete_staged.ensures.rest.survives.clean) in
+    absurd (false≢true (sym ((c.in_ok-has_staged.ensures.found has inside asked_clean).1 none) ∙ c.if-not-branch.false))
 
 pub returns-clause-done : goal.returns-clause-done
 returns-clause-done g c tables pends = c.in_ok-has_staged-2.ensures.still tables (c.in_ok-delete_staged.ensures.done tables (c.in_ok-has_staged.ensures.still tables pends))
+
+pub returns-then-not-branch-clause-same : goal.returns-then-not-branch-clause-same
+returns-then-not-branch-clause-same g c has inside clean none = c.in_ok-has_staged.ensures.same has inside clean
+
+pub returns-in_err-has_staged-clause-rest : goal.returns-in_err-has_staged-clause-rest
+returns-in_err-has_staged-clause-rest g c = failed c.from_residual.result c.has_staged.ensures.rest c.from_residual.ensures.0
+
+pub returns-then-not-branch-clause-rest : goal.returns-then-not-branch-clause-rest
+returns-then-not-branch-clause-rest g c = succeeded _ c.in_ok-has_staged.ensures.rest
+
+pub returns-in_err-delete_staged-clause-rest : goal.returns-in_err-delete_staged-clause-rest
+returns-in_err-delete_staged-clause-rest g c = failed c.from_residual-in_err-delete_staged.result (begun_then c.in_ok-has_staged.ensures.rest (within c.delete_staged.ensures.rest)) c.from_residual-in_err-delete_staged.ensures.0
+
+pub returns-in_err-has_staged-2-clause-rest : goal.returns-in_err-has_staged-2-clause-rest
+returns-in_err-has_staged-2-clause-rest g c = failed c.from_residual-in_err-has_staged-2.result (begun_then (begun_then c.in_ok-has_staged.ensures.rest (within c.in_ok-delete_staged.ensures.rest)) c.has_staged-2.ensures.rest) c.from_residual-in_err-has_staged-2.ensures.0
+
+pub returns-then-branch-clause-rest : goal.returns-then-branch-clause-rest
+returns-then-branch-clause-rest g c = followed _ (begun_then (begun_then c.in_ok-has_staged.ensures.rest (within c.in_ok-delete_staged.ensures.rest)) c.in_ok-has_staged-2.ensures.rest)
+
+pub returns-clause-rest : goal.returns-clause-rest
+returns-clause-rest g c = succeeded _ (begun_then (begun_then c.in_ok-has_staged.ensures.rest (within c.in_ok-delete_staged.ensures.rest)) c.in_ok-has_staged-2.ensures.rest)

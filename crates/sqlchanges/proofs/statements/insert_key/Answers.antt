@@ -7,19 +7,19 @@ use Rattle.sqlite_value.specs.Order.{Row}
 use Rattle.sqltables.specs.Tables.{role_number}
 use Rattle.sqltables.proofs.Texts.{insert_key, insert_key_command, insert_key_is}
 use Rattle.sqlchanges.proofs.KeyRows.{given_key, puts_key}
+use Rattle.sqlchanges.proofs.Ran.{ran_then}
 use Rattle.sqlchanges.proofs.statements.insert_key.Goals.{in-Link, in-Clerk}
 use Rattle.sqlchanges.proofs.statements.insert_key.Goals as goal
 
 pub returns-clause-done : goal.returns-clause-done
-returns-clause-done g c v tables ours pends free clean inside is_open =
+returns-clause-done g c v tables ours pends free = ran_then c.run.result c.run.ensures.ran (λ clean run inside is_open.
     let old = state g.S.Store c.args.tx.now.conn.now in
-    let new = state g.S.Store c.execute.new.tx.conn.now in
-    let was_in = (c.in_ok-execute.ensures.ran clean).0 in
-    let early : HasCleanDisk old = omega (arith, c.execute.ensures.rest.survives.clean) in
+    let new = state g.S.Store c.run.new.tx.conn.now in
+    let early : HasCleanDisk old = omega (arith, c.run.ensures.rest.survives.clean) in
     let number_is : to_z w32 c.match-role.number-bits ≡ role_number c.args.role = elim c.match-role.branch [ in-Link w ↦ w.number-is ∙ ap role_number (sym w.in-Link.is) | in-Clerk w ↦ w.number-is ∙ ap role_number (sym w.in-Clerk.is) ] in
-    let ran = rw (c.params-to_sql.ensures, c.params-to_sql-2.ensures, c.params-to_sql-3.ensures) at (c.in_ok-execute.ensures.ran clean).1 in
-    let it = pends early was_in ran.1.was_open in
+    let ran = rw (c.params-to_sql.ensures, c.params-to_sql-2.ensures, c.params-to_sql-3.ensures) at run.executed in
+    let it = pends early run.inside ran.1.was_open in
     let params : Row = Text c.args.id.now ∷ Int (to_z w32 c.match-role.number-bits) ∷ Blob c.args.secret.now ∷ [] in
     let same : params ≡ given_key c.args.id.now c.args.role c.args.secret.now = rw number_is in
-    puts_key v (ours_of v ours) (says_of v ours insert_key insert_key_command insert_key_is) old new c.in_ok-execute.field-0 tables c.args.id.now c.args.role c.args.secret.now it.schema it.means free
-    (subst (λ p. Executes insert_key p old new (Ok c.in_ok-execute.field-0)) same ran.0)
+    puts_key v (ours_of v ours) (says_of v ours insert_key insert_key_command insert_key_is) old new run.count tables c.args.id.now c.args.role c.args.secret.now it.schema it.means free
+    (subst (λ p. Executes insert_key p old new (Ok run.count)) same ran.0))

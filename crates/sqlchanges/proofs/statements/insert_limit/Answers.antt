@@ -2,14 +2,14 @@ use Rattle.std.proofs.Common.{arith}
 use Rattle.sqlite.specs.State.{HasCleanDisk}
 use Rattle.sqlite.specs.Held.{state}
 use Rattle.sqlchanges.proofs.LimitRows.{puts_limit}
+use Rattle.sqlchanges.proofs.Ran.{ran_then}
 use Rattle.sqlchanges.proofs.statements.insert_limit.Goals as goal
 
 pub returns-clause-done : goal.returns-clause-done
-returns-clause-done g c tables pends free clean inside is_open =
+returns-clause-done g c tables pends free = ran_then c.run.result c.run.ensures.ran (λ clean run inside is_open.
     let old = state g.S.Store c.args.tx.now.conn.now in
-    let new = state g.S.Store c.execute.new.tx.conn.now in
-    let was_in = (c.in_ok-execute.ensures.ran clean).0 in
-    let early : HasCleanDisk old = omega (arith, c.execute.ensures.rest.survives.clean) in
-    let ran = rw (c.params-to_sql.ensures, c.params-to_sql-2.ensures) at (c.in_ok-execute.ensures.ran clean).1 in
-    let it = pends early was_in ran.1.was_open in
-    puts_limit old new c.in_ok-execute.field-0 tables (record { key = c.args.id.now; box = c.args.in_box.now }) it.schema it.means free ran.0
+    let new = state g.S.Store c.run.new.tx.conn.now in
+    let early : HasCleanDisk old = omega (arith, c.run.ensures.rest.survives.clean) in
+    let ran = rw (c.params-to_sql.ensures, c.params-to_sql-2.ensures) at run.executed in
+    let it = pends early run.inside ran.1.was_open in
+    puts_limit old new run.count tables (record { key = c.args.id.now; box = c.args.in_box.now }) it.schema it.means free ran.0)

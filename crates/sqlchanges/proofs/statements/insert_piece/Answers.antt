@@ -4,15 +4,15 @@ use Rattle.sqlite.specs.Held.{state}
 use Rattle.sqltables.proofs.Ours.{ours_of, says_of}
 use Rattle.sqltables.proofs.Texts.{insert_piece, insert_piece_command, insert_piece_is}
 use Rattle.sqlchanges.proofs.PieceRows.{adds_piece}
+use Rattle.sqlchanges.proofs.Ran.{ran_then}
 use Rattle.sqlchanges.proofs.statements.insert_piece.Goals as goal
 
 pub returns-clause-done : goal.returns-clause-done
-returns-clause-done g c v tables after ours pends adds clean inside is_open =
+returns-clause-done g c v tables after ours pends adds = ran_then c.run.result c.run.ensures.ran (λ clean run inside is_open.
     let old = state g.S.Store c.args.tx.now.conn.now in
-    let new = state g.S.Store c.execute.new.tx.conn.now in
-    let was_in = (c.in_ok-execute.ensures.ran clean).0 in
-    let early : HasCleanDisk old = omega (arith, c.execute.ensures.rest.survives.clean) in
-    let ran = rw (c.params-to_sql.ensures, c.params-to_sql-2.ensures, c.params-to_sql-3.ensures, c.params-to_sql-4.ensures) at (c.in_ok-execute.ensures.ran clean).1 in
-    let it = pends early was_in ran.1.was_open in
-    adds_piece v (ours_of v ours) (says_of v ours insert_piece insert_piece_command insert_piece_is) old new c.in_ok-execute.field-0 tables after
-    (record { place = record { box = c.args.box_name.now; name = c.args.name.now }; at = c.args.part }) c.args.bytes.now it.schema it.means adds.0 adds.1 ran.0
+    let new = state g.S.Store c.run.new.tx.conn.now in
+    let early : HasCleanDisk old = omega (arith, c.run.ensures.rest.survives.clean) in
+    let ran = rw (c.params-to_sql.ensures, c.params-to_sql-2.ensures, c.params-to_sql-3.ensures, c.params-to_sql-4.ensures) at run.executed in
+    let it = pends early run.inside ran.1.was_open in
+    adds_piece v (ours_of v ours) (says_of v ours insert_piece insert_piece_command insert_piece_is) old new run.count tables after
+    (record { place = record { box = c.args.box_name.now; name = c.args.name.now }; at = c.args.part }) c.args.bytes.now it.schema it.means adds.0 adds.1 ran.0)

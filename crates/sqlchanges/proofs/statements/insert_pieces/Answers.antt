@@ -1,11 +1,12 @@
-use Rattle.std.proofs.Common.{Bor, ℕ, List, option_map, ◌≡◌, ◌+◌, ◌*◌, ◌≤◌, length, Some, arith, sym, ap, subst, ◌∙◌, rules}
+use Rattle.std.proofs.Common.{Bor, ℕ, List, option_map, ◌≡◌, ◌+◌, ◌*◌, ◌≤◌, length, Some, arith, sym, ap, subst, ◌∙◌, rules, refl}
+use Rattle.sqltables.proofs.Runs.{itself_keeps}
 use Rattle.sqlite.specs.State.{HasCleanDisk}
 use Rattle.sqlite.specs.Held.{state}
 use Rattle.boxes.specs.State.{Place}
 use Rattle.sqltables.specs.Tables.{piece_of}
 use Rattle.sqltables.specs.Changes.{with_pieces}
 use Rattle.sqltables.specs.Means.{Pends}
-use Rattle.sqltables.proofs.Building.{survives_then, keeps_then, one_more, all_pieces}
+use Rattle.sqltables.proofs.Building.{survives_then, keeps_then, one_more, all_pieces, survives_itself, no_pieces}
 use Rattle.sqltables.specs.Staging.{held}
 use Rattle.sqltables.proofs.Held.{none_left}
 use Rattle.sqlchanges.proofs.statements.insert_pieces.Goals as goal
@@ -38,3 +39,16 @@ returns-clause-done g c v tables ours pends none =
     let bytes = held c.args.bytes.now in
     let all : length bytes ≤ 65536 * c.loop-piece.part = none_left bytes c.loop-piece.part (search rules) in
     subst (λ t. Pends v (state g.S.Store c.loop-piece.tx.conn.now) t) (all_pieces tables place bytes c.loop-piece.part all) (c.loop-piece.invariant.1.done v tables ours pends none)
+
+pub loop-piece-init : goal.loop-piece-init
+loop-piece-init g c =
+    let entry = state g.S.Store c.args.tx.now.conn.now in
+    let place : Place = record { box = c.args.box_name.now; name = c.args.name.now } in (
+      refl,
+      record {
+        uncommitted = λ clean. itself_keeps entry;
+        survives = survives_itself entry;
+        running = λ clean is. is;
+        done = λ v tables ours pends none. subst (Pends v entry) (sym (no_pieces tables place (held c.args.bytes.now) none)) pends;
+      },
+    )

@@ -9,18 +9,18 @@ use Rattle.sqlite_value.specs.Order.{Row}
 use Rattle.std.proofs.lemmas.Int.{to_z-of_z}
 use Rattle.sqltables.proofs.Texts.{insert_receipt, insert_receipt_command, insert_receipt_is}
 use Rattle.sqlchanges.proofs.ReceiptRows.{given_receipt, puts_receipt}
+use Rattle.sqlchanges.proofs.Ran.{ran_then}
 use Rattle.sqlchanges.proofs.statements.insert_receipt.Goals as goal
 
 pub returns-clause-done : goal.returns-clause-done
-returns-clause-done g c v tables at r ours pends free number box_is name_is size digest moment key clean inside is_open =
+returns-clause-done g c v tables at r ours pends free number box_is name_is size digest moment key = ran_then c.run.result c.run.ensures.ran (λ clean run inside is_open.
     let old = state g.S.Store c.args.tx.now.conn.now in
-    let new = state g.S.Store c.execute.new.tx.conn.now in
-    let was_in = (c.in_ok-execute.ensures.ran clean).0 in
-    let early : HasCleanDisk old = omega (arith, c.execute.ensures.rest.survives.clean) in
-    let moment_is : to_z w64 (of_z w64 c.args.moment) ≡ c.args.moment = grind (arith, to_z-of_z, c.ranges.moment.sfits) in
-    let ran = rw (c.params-to_sql.ensures, c.params-to_sql-2.ensures, c.params-to_sql-3.ensures, c.params-to_sql-4.ensures, c.params-to_sql-5.ensures, c.params-to_sql-6.ensures, c.params-to_sql-7.ensures, moment_is) at (c.in_ok-execute.ensures.ran clean).1 in
-    let it = pends early was_in ran.1.was_open in
+    let new = state g.S.Store c.run.new.tx.conn.now in
+    let early : HasCleanDisk old = omega (arith, c.run.ensures.rest.survives.clean) in
+    let moment_is : to_z w64 (of_z w64 c.args.moment) ≡ c.args.moment = to_z-of_z w64 c.args.moment c.ranges.moment in
+    let ran = rw (c.params-to_sql.ensures, c.params-to_sql-2.ensures, c.params-to_sql-3.ensures, c.params-to_sql-4.ensures, c.params-to_sql-5.ensures, c.params-to_sql-6.ensures, c.params-to_sql-7.ensures, moment_is) at run.executed in
+    let it = pends early run.inside ran.1.was_open in
     let params : Row = Int (pos c.args.number) ∷ Text c.args.box_name.now ∷ Text c.args.name.now ∷ Int (pos c.args.length) ∷ Blob c.args.digest.now ∷ Int c.args.moment ∷ Text c.args.key.now ∷ [] in
     let same : params ≡ given_receipt at r = rw (number, ← box_is, ← name_is, ← size, ← digest, ← moment, ← key) in
-    puts_receipt v (ours_of v ours) (says_of v ours insert_receipt insert_receipt_command insert_receipt_is) old new c.in_ok-execute.field-0 tables at r it.schema it.means free
-    (subst (λ p. Executes insert_receipt p old new (Ok c.in_ok-execute.field-0)) same ran.0)
+    puts_receipt v (ours_of v ours) (says_of v ours insert_receipt insert_receipt_command insert_receipt_is) old new run.count tables at r it.schema it.means free
+    (subst (λ p. Executes insert_receipt p old new (Ok run.count)) same ran.0))

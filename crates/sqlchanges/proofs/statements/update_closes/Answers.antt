@@ -7,18 +7,18 @@ use Rattle.sqlite_value.specs.Order.{Row}
 use Rattle.std.proofs.lemmas.Int.{to_z-of_z}
 use Rattle.sqltables.proofs.Texts.{update_closes, update_closes_command, update_closes_is}
 use Rattle.sqlchanges.proofs.ClosingRows.{given_closing, sets_closing}
+use Rattle.sqlchanges.proofs.Ran.{ran_then}
 use Rattle.sqlchanges.proofs.statements.update_closes.Goals as goal
 
 pub returns-clause-done : goal.returns-clause-done
-returns-clause-done g c v tables b second ours pends there moment clean inside is_open =
+returns-clause-done g c v tables b second ours pends there moment = ran_then c.run.result c.run.ensures.ran (λ clean run inside is_open.
     let old = state g.S.Store c.args.tx.now.conn.now in
-    let new = state g.S.Store c.execute.new.tx.conn.now in
-    let was_in = (c.in_ok-execute.ensures.ran clean).0 in
-    let early : HasCleanDisk old = omega (arith, c.execute.ensures.rest.survives.clean) in
+    let new = state g.S.Store c.run.new.tx.conn.now in
+    let early : HasCleanDisk old = omega (arith, c.run.ensures.rest.survives.clean) in
     let moment_is : to_z w64 (of_z w64 c.args.moment) ≡ c.args.moment = to_z-of_z w64 c.args.moment c.ranges.moment in
-    let ran = rw (c.params-to_sql.ensures, c.params-to_sql-2.ensures, moment_is) at (c.in_ok-execute.ensures.ran clean).1 in
-    let it = pends early was_in ran.1.was_open in
+    let ran = rw (c.params-to_sql.ensures, c.params-to_sql-2.ensures, moment_is) at run.executed in
+    let it = pends early run.inside ran.1.was_open in
     let params : Row = Text c.args.name.now ∷ Int c.args.moment ∷ [] in
     let same : params ≡ given_closing c.args.name.now second = rw (← moment) in
-    sets_closing v (ours_of v ours) (says_of v ours update_closes update_closes_command update_closes_is) old new c.in_ok-execute.field-0 tables c.args.name.now b second it.schema it.means there
-    (subst (λ p. Executes update_closes p old new (Ok c.in_ok-execute.field-0)) same ran.0)
+    sets_closing v (ours_of v ours) (says_of v ours update_closes update_closes_command update_closes_is) old new run.count tables c.args.name.now b second it.schema it.means there
+    (subst (λ p. Executes update_closes p old new (Ok run.count)) same ran.0))

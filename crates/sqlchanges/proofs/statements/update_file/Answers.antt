@@ -4,14 +4,14 @@ use Rattle.sqlite.specs.Held.{state}
 use Rattle.sqltables.proofs.Ours.{ours_of, says_of}
 use Rattle.sqltables.proofs.Texts.{update_file, update_file_command, update_file_is}
 use Rattle.sqlchanges.proofs.FileRows.{sets_file}
+use Rattle.sqlchanges.proofs.Ran.{ran_then}
 use Rattle.sqlchanges.proofs.statements.update_file.Goals as goal
 
 pub returns-clause-done : goal.returns-clause-done
-returns-clause-done g c v tables was ours pends there clean inside is_open =
+returns-clause-done g c v tables was ours pends there = ran_then c.run.result c.run.ensures.ran (λ clean run inside is_open.
     let old = state g.S.Store c.args.tx.now.conn.now in
-    let new = state g.S.Store c.execute.new.tx.conn.now in
-    let was_in = (c.in_ok-execute.ensures.ran clean).0 in
-    let early : HasCleanDisk old = omega (arith, c.execute.ensures.rest.survives.clean) in
-    let ran = rw (c.params-to_sql.ensures, c.params-to_sql-2.ensures, c.params-to_sql-3.ensures) at (c.in_ok-execute.ensures.ran clean).1 in
-    let it = pends early was_in ran.1.was_open in
-    sets_file v (ours_of v ours) (says_of v ours update_file update_file_command update_file_is) old new c.in_ok-execute.field-0 tables (record { box = c.args.box_name.now; name = c.args.name.now }) was c.args.receipt it.schema it.means there ran.0
+    let new = state g.S.Store c.run.new.tx.conn.now in
+    let early : HasCleanDisk old = omega (arith, c.run.ensures.rest.survives.clean) in
+    let ran = rw (c.params-to_sql.ensures, c.params-to_sql-2.ensures, c.params-to_sql-3.ensures) at run.executed in
+    let it = pends early run.inside ran.1.was_open in
+    sets_file v (ours_of v ours) (says_of v ours update_file update_file_command update_file_is) old new run.count tables (record { box = c.args.box_name.now; name = c.args.name.now }) was c.args.receipt it.schema it.means there ran.0)

@@ -8,6 +8,8 @@ use Rattle.sqltables.specs.Tables.{tables_of}
 use Rattle.sqltables.specs.Means.{Pends}
 use Rattle.sqlchanges.proofs.Commands.{row_of}
 use Rattle.sqlkeeper.proofs.FileChanges.{given, totals_are, dropped, of_box, dropped_tables}
+use Rattle.sqltables.proofs.Onward.{begun_then, failed, gave_up, followed}
+use Rattle.sqlchanges.proofs.Chained.{within}
 use Rattle.sqlkeeper.proofs.changing.drop_file.Goals as goal
 
 pub returns-clause-done : goal.returns-clause-done
@@ -30,3 +32,21 @@ returns-clause-done g c v s after ours pends sound obeyed inside = given _ _ c.t
     let there : (tables_of s).box place.box ≡ _ = rw b.1 in
     let done = c.take_rows.ensures.done v (tables_of s) (row_of s place.box b.0) ours still there in
     subst (λ t. OnOk c.take_rows.result (Pends v (state g.S.Store c.take_rows.new.tx.conn.now) t)) (dropped_tables s place after c.in-Some.size sound named size c.take_out-left.result counted) done)
+
+pub returns-in_err-in_box-clause-rest : goal.returns-in_err-in_box-clause-rest
+returns-in_err-in_box-clause-rest g c = gave_up c.args.tx.now c.from_residual.result c.from_residual.ensures.0
+
+pub returns-in_err-name-clause-rest : goal.returns-in_err-name-clause-rest
+returns-in_err-name-clause-rest g c = gave_up c.args.tx.now c.from_residual-in_err-name.result c.from_residual-in_err-name.ensures.0
+
+pub returns-in_err-size-clause-rest : goal.returns-in_err-size-clause-rest
+returns-in_err-size-clause-rest g c = failed c.from_residual-in_err-size.result c.standing_size.ensures.rest c.from_residual-in_err-size.ensures.0
+
+pub returns-in_err-totals-clause-rest : goal.returns-in_err-totals-clause-rest
+returns-in_err-totals-clause-rest g c = failed c.from_residual-in_err-totals.result (begun_then c.in_ok-size.ensures.rest c.totals.ensures.rest) c.from_residual-in_err-totals.ensures.0
+
+pub returns-clause-rest : goal.returns-clause-rest
+returns-clause-rest g c = begun_then (begun_then c.in_ok-size.ensures.rest c.in_ok-totals.ensures.rest) (within c.take_rows.ensures.rest)
+
+pub returns-in_default-clause-rest : goal.returns-in_default-clause-rest
+returns-in_default-clause-rest g c = followed _ c.in_ok-size.ensures.rest

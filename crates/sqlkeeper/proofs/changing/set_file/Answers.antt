@@ -11,6 +11,8 @@ use Rattle.sqltables.specs.Means.{Pends}
 use Rattle.sqltables.specs.Staging.{held}
 use Rattle.sqlchanges.proofs.Commands.{row_of}
 use Rattle.sqlkeeper.proofs.FileChanges.{given, same_some, totals_are, upload, in_box, fits_used, fits_count, set_tables}
+use Rattle.sqltables.proofs.Onward.{begun_then, failed, gave_up}
+use Rattle.sqlchanges.proofs.Chained.{within}
 use Rattle.sqlkeeper.proofs.changing.set_file.Goals as goal
 
 pub returns-clause-done : goal.returns-clause-done
@@ -36,3 +38,18 @@ returns-clause-done g c v s after ours pends sound set inside = given _ _ c.writ
     let r = receipt_of (upload s c.args.file.now bytes after place same sound set) in
     let done = c.write_file.ensures.done v (tables_of s) (row_of s place.box b.0) (length s.receipts) r ours still free stands there set.file.number refl refl (sym set.file.size) (sym set.file.digest) refl refl in
     subst (λ t. OnOk c.write_file.result (Pends v (state g.S.Store c.write_file.new.tx.conn.now) t)) (set_tables s c.args.file.now bytes after place same sound set c.set-held.result counted) done)
+
+pub returns-in_err-in_box-clause-rest : goal.returns-in_err-in_box-clause-rest
+returns-in_err-in_box-clause-rest g c = gave_up c.args.tx.now c.from_residual.result c.from_residual.ensures.0
+
+pub returns-in_err-name-clause-rest : goal.returns-in_err-name-clause-rest
+returns-in_err-name-clause-rest g c = gave_up c.args.tx.now c.from_residual-in_err-name.result c.from_residual-in_err-name.ensures.0
+
+pub returns-in_err-old-clause-rest : goal.returns-in_err-old-clause-rest
+returns-in_err-old-clause-rest g c = failed c.from_residual-in_err-old.result c.standing_size.ensures.rest c.from_residual-in_err-old.ensures.0
+
+pub returns-in_err-totals-clause-rest : goal.returns-in_err-totals-clause-rest
+returns-in_err-totals-clause-rest g c = failed c.from_residual-in_err-totals.result (begun_then c.in_ok-old.ensures.rest c.totals.ensures.rest) c.from_residual-in_err-totals.ensures.0
+
+pub returns-clause-rest : goal.returns-clause-rest
+returns-clause-rest g c = begun_then (begun_then c.in_ok-old.ensures.rest c.in_ok-totals.ensures.rest) (within c.write_file.ensures.rest)

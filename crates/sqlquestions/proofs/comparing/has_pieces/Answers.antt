@@ -46,7 +46,7 @@ returns-then-not-branch-clause-found g c v tables there ours pends size pieces i
     let early : HasCleanDisk mid = omega (arith, clean, c.is_piece.ensures.rest.survives.clean) in
     let cut : piece_of bytes count ≡ Some c.in-Some.piece.now = sym c.piece.ensures ∙ ap (option_map (λ (piece : Bor (List ℕ)). piece.now)) c.in-Some.is in
     let is = c.in_ok-is_piece.ensures.found v tables ours (so_far.still v tables ours pends) (so_far.inside early inside) clean in (
-      λ t. let e : ◌≡◌ false true = t in absurd cc,
+      λ t. absurd (false≢true t),
       λ same. absurd (not_same tables place there bytes count size pieces c.in-Some.piece.now cut (λ some. false≢true (sym c.if-not-branch.true ∙ is.1 some)) same),
     )
 

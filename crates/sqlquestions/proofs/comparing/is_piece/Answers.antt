@@ -1,4 +1,5 @@
 use Rattle.std.proofs.Common.{◌≡◌, ℕ, List, Bool, true, false, Some, IsTrue, arith, sym, subst, ap, ◌∙◌}
+use Rattle.std.proofs.lemmas.Bool.{false≢true}
 use Rattle.std.specs.Prelude.{◌↔◌}
 use Rattle.sigtext.specs.Bytes.{same_bytes}
 use Rattle.boxes.proofs.FileTotals.{texts_alike, same_as_itself}
@@ -40,7 +41,7 @@ returns-in-None-clause-found g c v tables ours pends inside clean =
     let it = pends early inside was_open in
     let none = no_piece_there tables (old.now.trees 9) it.means.pieces place c.args.part
     (subst (IsPieceAt (old.now.trees 9) place c.args.part) c.in-None.is (c.in_ok-piece.ensures.read v ours (λ is_open. (pends early inside is_open).schema) (λ is_open. (pends early inside is_open).sound) inside clean)) in
-    (λ t. let e : ◌≡◌ false true = t in absurd cc, λ some. absurd (none c.args.bytes.now some))
+    (λ t. absurd (false≢true t), λ some. absurd (none c.args.bytes.now some))
 
 pub returns-in_err-piece-clause-rest : goal.returns-in_err-piece-clause-rest
 returns-in_err-piece-clause-rest g c = failed c.from_residual.result c.read_piece.ensures.rest c.from_residual.ensures.0

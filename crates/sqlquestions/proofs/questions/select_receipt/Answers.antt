@@ -7,6 +7,7 @@ use Rattle.sqltables.specs.Questions.{ShowsRow}
 use Rattle.sqltables.proofs.Ours.{asks_of}
 use Rattle.sqltables.proofs.Texts.{select_receipt, select_receipt_command, select_receipt_is}
 use Rattle.sqltables.proofs.Asked.{finds_row}
+use Rattle.sqltables.proofs.Onward.{refused}
 use Rattle.sqlquestions.proofs.PointQueries.{picks_receipt}
 use Rattle.sqlquestions.proofs.questions.select_receipt.Goals as goal
 
@@ -22,3 +23,6 @@ returns-clause-found g c v tables at ours pends number inside clean =
 
 pub returns-clause-still : goal.returns-clause-still
 returns-clause-still g c v tables ours pends = c.select_row.ensures.still v tables (asks_of v ours select_receipt select_receipt_command select_receipt_is).says.plain pends
+
+pub returns-in_default-clause-rest : goal.returns-in_default-clause-rest
+returns-in_default-clause-rest g c = refused c.args.tx.now

@@ -1,4 +1,5 @@
 use Rattle.std.proofs.Common.{◌≡◌, ℕ, true, false, List, length, Option, Some, None, option_map, option_and_then, IsTrue, arith, refl, sym, ap, subst, ◌∙◌}
+use Rattle.std.proofs.lemmas.Bool.{false≢true}
 use Rattle.std.specs.Prelude.{◌↔◌, IsSomeAnd}
 use Rattle.std.specs.FinMap.{get}
 use Rattle.sqlite.specs.State.{HasCleanDisk}
@@ -39,7 +40,7 @@ pub returns-in_default-clause-found : goal.returns-in_default-clause-found
 returns-in_default-clause-found g c v s ours pends sound inside clean =
     let place : Place = record { box = c.args.in_box.now; name = c.args.name.now } in
     let told = subst (λ (o : Option ℕ). o ≡ option_map (λ (f : File). length f.bytes) (get s.files place)) c.in_default.is (c.in_ok-size.ensures.found v s ours pends sound inside clean) in
-    (λ t. let e : ◌≡◌ false true = t in absurd cc, λ has. absurd (no_file s place (held c.args.bytes.now) told has))
+    (λ t. absurd (false≢true t), λ has. absurd (no_file s place (held c.args.bytes.now) told has))
 
 pub returns-then-size-len-clause-found : goal.returns-then-size-len-clause-found
 returns-then-size-len-clause-found g c v s ours pends sound inside clean =
@@ -48,7 +49,7 @@ returns-then-size-len-clause-found g c v s ours pends sound inside clean =
     let told = subst (λ (o : Option ℕ). o ≡ option_map (λ (f : File). length f.bytes) (get s.files place)) c.in-Some.is (c.in_ok-size.ensures.found v s ours pends sound inside clean) in
     let it = stands s place c.in-Some.size told in
     let just = has_just s place it.file bytes it.there in
-    (λ t. let e : ◌≡◌ false true = t in absurd cc, λ has. absurd (c.if-size-len.true (sym it.size_is ∙ ap length (just.0 has) ∙ sym c.len.ensures)))
+    (λ t. absurd (false≢true t), λ has. absurd (c.if-size-len.true (sym it.size_is ∙ ap length (just.0 has) ∙ sym c.len.ensures)))
 
 pub returns-clause-found : goal.returns-clause-found
 returns-clause-found g c v s ours pends sound inside clean =

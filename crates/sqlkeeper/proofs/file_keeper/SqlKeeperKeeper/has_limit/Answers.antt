@@ -1,12 +1,13 @@
 use Rattle.sqlkeeper.proofs.NotText.{no_limit}
 use Rattle.std.specs.Prelude.{◌↔◌, IsTrue, IfOk}
 use Rattle.std.proofs.Common.{◌≡◌, true, false, subst}
+use Rattle.std.proofs.lemmas.Bool.{false≢true}
 use Rattle.boxes.specs.Limits.{IsLimitedTo}
 use Rattle.sqlkeeper.proofs.file_keeper.SqlKeeperKeeper.has_limit.Goals as goal
 
 pub returns-in_default-clause-value : goal.returns-in_default-clause-value
 returns-in_default-clause-value g c s keeps sound clean =
-    (λ t. let e : ◌≡◌ false true = t in cc, λ held. absurd (no_limit s sound c.args.id.now c.args.in_box.now c.in_default.ensures.cases.0 held))
+    (λ t. absurd (false≢true t), λ held. absurd (no_limit s sound c.args.id.now c.args.in_box.now c.in_default.ensures.cases.0 held))
 
 pub returns-clause-value : goal.returns-clause-value
 returns-clause-value g c s keeps sound clean =

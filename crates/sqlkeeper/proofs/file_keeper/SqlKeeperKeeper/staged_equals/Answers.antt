@@ -1,4 +1,5 @@
 use Rattle.std.proofs.Common.{◌≡◌, ℕ, List, true, false, subst, subst₂}
+use Rattle.std.proofs.lemmas.Bool.{false≢true}
 use Rattle.std.specs.Prelude.{◌↔◌, IsTrue, IfOk}
 use Rattle.sqlite.specs.Held.{state}
 use Rattle.boxes.specs.State.{Place}
@@ -11,12 +12,12 @@ use Rattle.sqlkeeper.proofs.file_keeper.SqlKeeperKeeper.staged_equals.Goals as g
 pub returns-in_default-clause-value : goal.returns-in_default-clause-value
 returns-in_default-clause-value g c staged is s keeps sound clean =
     let place : Place = record { box = c.args.in_box.now; name = c.args.name.now } in
-    (λ t. let e : ◌≡◌ false true = t in cc, λ has. absurd (no_bytes_at s place staged (no_file_in s sound place c.in_default.ensures.cases.0) has))
+    (λ t. absurd (false≢true t), λ has. absurd (no_bytes_at s place staged (no_file_in s sound place c.in_default.ensures.cases.0) has))
 
 pub returns-in_default-from_utf8-clause-value : goal.returns-in_default-from_utf8-clause-value
 returns-in_default-from_utf8-clause-value g c staged is s keeps sound clean =
     let place : Place = record { box = c.args.in_box.now; name = c.args.name.now } in
-    (λ t. let e : ◌≡◌ false true = t in cc, λ has. absurd (no_bytes_at s place staged (no_file_named s sound place c.in_default-from_utf8.ensures.cases.0) has))
+    (λ t. absurd (false≢true t), λ has. absurd (no_bytes_at s place staged (no_file_named s sound place c.in_default-from_utf8.ensures.cases.0) has))
 
 pub returns-clause-value : goal.returns-clause-value
 returns-clause-value g c staged is s keeps sound clean =
