@@ -1,6 +1,7 @@
 //! One step of a session: it reads and answers a message, or it ends the session.
 ghost use Rattle.std.specs.Prelude.{◌≡◌, ◌≢◌};
 ghost use Rattle.sigtext.specs.Counts.{Rose};
+ghost use Rattle.office.specs.Handling.{end_of};
 ghost use Rattle.office.specs.Stepping.{IsClosed};
 
 use super::handling::{Handled, send_answer};
@@ -29,6 +30,17 @@ fn close<W: Write>(refusal: Refusal, writer: &mut Counted<W>) -> SessionEnd
     match put_answer(&Answer::refused(refusal, false), writer) {
         Ok(()) => SessionEnd::Refused(refusal.number()),
         Err(_) => SessionEnd::WriteFault,
+    }
+}
+
+// How the session ends after a message that ended like this, if it ends.
+fn end_of(handled: Handled) -> Option<SessionEnd>
+    ensures { result ≡ end_of handled }
+{
+    match handled {
+        Handled::Answered => None,
+        Handled::GaveUp => Some(SessionEnd::Refused(40)),
+        Handled::Broken => Some(SessionEnd::WriteFault),
     }
 }
 
@@ -133,11 +145,7 @@ impl<K: Keeper> Office<K> {
                     length: size as u64,
                     digest,
                 };
-                match self.serve_message(foreseen, &body, to_head, writer, clock) {
-                    Handled::Answered => None,
-                    Handled::GaveUp => Some(SessionEnd::Refused(40)),
-                    Handled::Broken => Some(SessionEnd::WriteFault),
-                }
+                end_of(self.serve_message(foreseen, &body, to_head, writer, clock))
             }
             Received::Lacking => Some(self.close_lacking(upload, writer)),
             Received::Broken => {

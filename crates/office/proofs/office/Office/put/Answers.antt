@@ -7,10 +7,10 @@ use Rattle.boxes.specs.Views.{IsUploadViewOf}
 use Rattle.wire.specs.declared.answer.Reply.{Reply}
 use Rattle.office.specs.Crashes.{Endures, unchanged}
 use Rattle.office.specs.Premise.{WasKept}
-use Rattle.office.specs.Replying.{IsReplied}
+use Rattle.office.specs.Replying.{IsReplied, IsNoRefusal}
 use Rattle.office.specs.Rules.{place_of, upload_of}
 use Rattle.office.proofs.Endurance.{asked_standing, refused_adds, then_adds, then_replied, unset}
-use Rattle.office.proofs.Foreseen.{denied, no_reply, told}
+use Rattle.office.proofs.Foreseen.{denied, no_reply, told, gave_reply, kept_plain, receipt_plain}
 use Rattle.office.proofs.Replies.{asks, brought, again, not_put, sets, set_replied}
 use Rattle.office.proofs.Unstaged.{ends_later, rose_least, asked_holds, then_holds}
 use Rattle.office.proofs.Holding.{holds_then}
@@ -160,3 +160,9 @@ returns-clause-same g c = λ s means. c.set_file.ensures.same s (c.in-Ok.ensures
 
 pub returns-clause-rest : goal.returns-clause-rest
 returns-clause-rest g c = holds_then (asked_holds g.K.Keeper _ _ _ c.in-Ok.ensures.rest) c.set_file.ensures.rest
+
+pub returns-in-Again-clause-plain : goal.returns-in-Again-clause-plain
+returns-in-Again-clause-plain g c = gave_reply IsNoRefusal c.reply_of.result c.let_go-in-Again.result c.let_go-in-Again.ensures.gives (kept_plain c.reply_of.result _ _ _ c.reply_of.ensures)
+
+pub returns-clause-plain : goal.returns-clause-plain
+returns-clause-plain g c = receipt_plain c.in-Taken.file c.set_file.result c.set_file.ensures.receipt
