@@ -147,12 +147,17 @@ impl<K: Keeper> Office<K> {
                 };
                 end_of(self.serve_message(foreseen, &body, to_head, writer, clock))
             }
-            Received::Lacking => Some(self.close_lacking(upload, writer)),
+            Received::Lacking => {
+                drop(foreseen);
+                Some(self.close_lacking(upload, writer))
+            }
             Received::Broken => {
+                drop(foreseen);
                 let _ = self.drop_staged(upload);
                 Some(SessionEnd::ReadFault)
             }
             Received::GaveUp => {
+                drop(foreseen);
                 let _ = self.drop_staged(upload);
                 Some(close(Refusal::TryAgain, writer))
             }
@@ -195,6 +200,7 @@ impl<K: Keeper> Office<K> {
         };
         let foreseen = self.foresee(&message);
         if is_given_up(&foreseen) {
+            drop(foreseen);
             return Some(close(Refusal::TryAgain, writer));
         }
         let to_head = asks_head(&message);
