@@ -1,3 +1,4 @@
 pub mod Entries
 pub mod Followed
 pub mod Answered
+pub mod Passed

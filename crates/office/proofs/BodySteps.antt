@@ -36,7 +36,7 @@ use Rattle.seats.specs.declared.session.SessionEnd.{SessionEnd}
 use Rattle.seats.specs.declared.session.SessionEnd.TheVariants.{Refused, ReadFault, WriteFault}
 use Rattle.office.specs.Answering.{is_head}
 use Rattle.office.specs.Connections.{MayGiveUp}
-use Rattle.office.specs.Handling.{Handles}
+use Rattle.office.specs.Handling.{Handles, end_of}
 use Rattle.office.specs.Premise.{IsFault, WasKept}
 use Rattle.keeper.specs.declared.keep.KeepFault.{KeepFault}
 use Rattle.wire.specs.Feeds.{left, reader_of, waits_in}
@@ -115,12 +115,6 @@ came_whole remaining size old new k keeper foreseen false b small is came stages
     record { body = came.0; taken = came.1; staged = λ upload. absurd (false≢true (is.1 upload)) }
 
 -- ---- steps after a head
-
--- how a session goes on, by how a message ended
-abbrev pub end_of : Handled → Option SessionEnd
-end_of handled.Answered = None
-end_of handled.GaveUp = Some (Refused 40)
-end_of handled.Broken = Some WriteFault
 
 module _ {R C K : Type 0} (remaining : R → Option (List ℕ)) (size : ℕ) (old new : Feed R) (gives : C → ℕ → C → Type 0) (p : Place) (known output output' : Option (List ℕ)) (clock clock' : C) (k : Ghosts K) (a b c : K) (s : State)
     (foreseen : Result Prospect Refusal) (to_head : Bool) (x : IsExpected s size known (left remaining old) foreseen to_head) where

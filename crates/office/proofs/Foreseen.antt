@@ -1,5 +1,5 @@
 -- Consequences of what was foreseen of a message.
-use Rattle.std.proofs.Common.{◌≡◌, ◌≢◌, ℕ, Result, Ok, Err, ap, refl, sym, subst, ◌∙◌}
+use Rattle.std.proofs.Common.{◌≡◌, ◌≢◌, ℕ, List, Result, Ok, Err, ap, refl, sym, subst, ◌∙◌}
 use Rattle.std.specs.Prelude.{IfErr, IfOk, IsErr, OnErr, OnOk, is_err, true, false}
 use Rattle.keeper.specs.declared.keep.KeepFault.{KeepFault}
 use Rattle.office.specs.Premise.{IsFault}
@@ -9,13 +9,15 @@ use Rattle.sigtext.specs.Request.{Request}
 use Rattle.sigtext.specs.Rules.{IsFirstToFail}
 use Rattle.links.specs.WellFormed.{LinkValues, IsWellFormed}
 use Rattle.boxes.specs.State.{State}
+use Rattle.boxes.specs.declared.change.NewFile.{NewFile}
 use Rattle.wire.specs.declared.answer.Reply.{Reply}
+use Rattle.wire.specs.declared.answer.Reply.TheVariants as reply
 use Rattle.office.specs.declared.requests.foreseeing.Prospect.{Prospect}
 use Rattle.office.specs.declared.requests.foreseeing.Errand.{Errand}
 use Rattle.office.specs.Admitted.{IsAdmitted, ReachesBoxes}
 use Rattle.office.specs.Foreseeing.{ComesTo, Foresees, IsErrandOf, IsForeseen, IsReadOf, IsUpload}
 use Rattle.office.specs.Readable.{IsReadable}
-use Rattle.office.specs.Replying.{IsReplied}
+use Rattle.office.specs.Replying.{IsNoRefusal, IsReceiptFor, IsReplied}
 use Rattle.office.specs.Rules.{Rule}
 
 pub readable_of : (r : Request) (p : LinkValues) → IsWellFormed r p → IsReadable r
@@ -55,6 +57,18 @@ denied means s r now q (Err y) gives fails = λ other.
 pub no_reply : (P : Reply → Type 0) (q : Refusal) (result : Result Reply Refusal) → (result ≢ Err rule.TryAgain → result ≡ Err q) → IfOk result P
 no_reply P q (Ok x) gives = absurd (ok_no_err x q (Ok x) refl (gives (ok_no_err x rule.TryAgain (Ok x) refl)))
 no_reply P q (Err y) gives = tt
+
+pub gave_reply : (P : Reply → Type 0) (x : Reply) (result : Result Reply Refusal) → (result ≢ Err rule.TryAgain → result ≡ Ok x) → P x → IfOk result P
+gave_reply P x (Ok y) gives holds = subst P (ok_is x y (Ok y) (gives (ok_no_err y rule.TryAgain (Ok y) refl)) refl) holds
+gave_reply P x (Err y) gives holds = tt
+
+-- a receipt is no refusal
+pub kept_plain : (x : Reply) (number size : ℕ) (digest : List ℕ) → x ≡ reply.Kept number size digest → IsNoRefusal x
+kept_plain x number size digest is q other = cc
+
+pub receipt_plain : (f : NewFile) (result : Result Reply Refusal) → IfOk result (IsReceiptFor f) → IfOk result IsNoRefusal
+receipt_plain f (Ok x) is = kept_plain x f.number f.size f.digest is
+receipt_plain f (Err y) is = tt
 
 -- a message that was to get a reply gets it
 pub told : (means : State → Type 0) (s : State) (r : Request) (now : ℕ) (x : Reply) (result : Result Reply Refusal) → (result ≢ Err rule.TryAgain → result ≡ Ok x)

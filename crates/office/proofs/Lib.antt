@@ -35,3 +35,4 @@ pub mod Weaving
 pub mod Counting
 pub mod CrowdTurns
 pub mod WithoutInTurn
+pub mod Endings

@@ -368,3 +368,8 @@ module _ {R W : Type 0} (remaining : R → Option (List ℕ)) (contents : W → 
           lasts = λ all. t.so_far.lasts (all_last t.sittings w.threads w.are all);
           survives = survives_more w.lost t.so_far.survives;
         }
+
+-- the faults of a step are those of the turn
+pub turn_tells : {R W : Type 0} (old new : Seat R W) (end : Option SessionEnd) → old.end ≡ None → new.end ≡ end → TellsStep end old.reader new.reader old.writer new.writer → TellsTurn old new
+turn_tells old new end was is tells =
+    subst (λ e. TellsTurnOf e old new) (sym was) (subst (λ e. TellsStep e old.reader new.reader old.writer new.writer) (sym is) tells)

@@ -8,7 +8,8 @@ use Rattle.sigv4.specs.Hashers.{ShaHolds}
 use Rattle.sigv4.specs.Hmac.{sha256}
 use Rattle.sigv4.specs.declared.hash.Sha.{Sha}
 use Rattle.keeper.specs.declared.keep.Keeper.{Ghosts}
-use Rattle.wire.specs.Feeding.{Done, GivesPiece, most_piece, part}
+use Rattle.sigtext.specs.Counts.{Rose}
+use Rattle.wire.specs.Feeding.{CountsReads, Done, GivesPiece, most_piece, part}
 use Rattle.wire.specs.Feeds.{left, place_of, reader_of, waits_in}
 use Rattle.wire.proofs.Skipping.{HasSkipped}
 use Rattle.wire.specs.Whole.{LacksBody}
@@ -56,6 +57,12 @@ broken_given : (size n : ℕ) (q : Place) (start known reader : Option (List ℕ
 broken_given size n q start known reader waits given fault.Read taken both g = let some = g.1 in (pieces_taken start known reader waits given taken g.2 g.3, omega (arith, both, some))
 broken_given size n q start known reader waits given fault.Memory taken both g = absurd g
 broken_given size n q start known reader waits given fault.Write taken both g = absurd g
+
+fault_rose : (n : ℕ) (q : Place) (known reader : Option (List ℕ)) (waits : List ℕ) (f : WireFault) (old new : ℕ) → GivesPiece (place.Body n) known (Err f) q waits reader
+    → CountsReads {T = Piece (Bor (List ℕ))} (Err f) old new → Rose old new
+fault_rose n q known reader waits fault.Read old new g counts = counts
+fault_rose n q known reader waits fault.Memory old new g counts = absurd g
+fault_rose n q known reader waits fault.Write old new g counts = absurd g
 
 module _ {R K : Type 0} {remaining : R → Option (List ℕ)} {size : ℕ} {k : Ghosts K} where
   -- the body was read this far
@@ -148,3 +155,14 @@ module _ {R K : Type 0} {remaining : R → Option (List ℕ)} {size : ℕ} {k : 
       → GivesPiece (place_of here) (left remaining here) (part result) (place_of next) (waits_in next) (remaining (reader_of next).inner)
       → LacksBody remaining size first next
   stages_lacking first here next keeper sha result r h is gives = lacks remaining size first here next result r (as_skipped h) is gives
+
+  -- the fault of the reader was counted
+  pub broken_rose : (first here next : Feed R) (keeper : K) (sha : Sha) (result : Result (Piece (Bor (List ℕ))) WireFault) (f : WireFault) (old new : ℕ) → HasStaged remaining size first here k keeper sha
+      → result ≡ Err f
+      → GivesPiece (place_of here) (left remaining here) (part result) (place_of next) (waits_in next) (remaining (reader_of next).inner)
+      → CountsReads result old new → Rose old new
+  broken_rose first here next keeper sha result f old new h is gives counts =
+      let n = size - length h.given in
+      let reader = remaining (reader_of next).inner in
+      fault_rose n (place_of next) (left remaining here) reader (waits_in next) f old new (fault_given n (place_of here) (place_of next) (left remaining here) reader (waits_in next) result f is h.open_still gives)
+      (subst (λ (x : Result (Piece (Bor (List ℕ))) WireFault). CountsReads x old new) is counts)

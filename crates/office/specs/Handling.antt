@@ -1,9 +1,11 @@
 -- What handling one message does to the clock, the writer, the state and the keeper.
-use Rattle.std.specs.Prelude.{◌≡◌, ◌⊎◌, ℕ, List, Option, true, false}
+use Rattle.std.specs.Prelude.{◌≡◌, ◌⊎◌, ℕ, List, Option, None, Some, true, false}
 use Rattle.std.specs.Io.KnownBytes.{Appends}
 use Rattle.sigtext.specs.declared.refusal.Refusal.TheVariants as rule
 use Rattle.sigtext.specs.Request.{Request}
 use Rattle.boxes.specs.State.{State}
+use Rattle.seats.specs.declared.session.SessionEnd.{SessionEnd}
+use Rattle.seats.specs.declared.session.SessionEnd.TheVariants.{Refused, WriteFault}
 use Rattle.keeper.specs.declared.keep.Keeper.{Ghosts}
 use Rattle.sigtext.specs.Bytes.{IsBeginning}
 use Rattle.office.specs.declared.connections.handling.Handled.{Handled}
@@ -17,6 +19,12 @@ use Rattle.office.specs.Sessions.{closing}
 -- refusal 40 was written, or writing broke off
 abbrev pub MayBeGivenUp : Handled → Type 0
 MayBeGivenUp h = (h ≡ GaveUp) ⊎ (h ≡ Broken)
+
+-- how a session ends by how a message ended, if it ends
+abbrev pub end_of : Handled → Option SessionEnd
+end_of Answered = None
+end_of GaveUp = Some (Refused 40)
+end_of Broken = Some WriteFault
 
 -- The message with the request r was handled at a moment. It was answered or given up, or writing the answer
 -- broke off.

@@ -1,3 +1,4 @@
+pub mod Ahead
 pub mod Begins
 pub mod Changing
 pub mod Ends

@@ -1,6 +1,7 @@
 -- What a call leaves that only counts a memory error.
-use Rattle.std.proofs.Common.{◌≡◌, ◌∙◌, inr, sym, Ok, Err}
-use Rattle.std.specs.Prelude.{◌≢◌, Result, IfErr, OnOk, IsErrOf}
+use Rattle.std.proofs.Common.{◌≡◌, ◌∙◌, ℕ, inr, refl, sym, Ok, Err}
+use Rattle.std.specs.Prelude.{◌≢◌, Result, Vec, IfErr, OnOk, IsErrOf}
+use Rattle.std.specs.declared.alloc.Global.{Global}
 use Rattle.sigtext.specs.Counts.{CountsErrors}
 use Rattle.boxes.specs.State.{State}
 use Rattle.keeper.specs.declared.keep.KeepFault.{KeepFault}
@@ -43,3 +44,40 @@ stays old new result same count fault = record {
   crash = λ s t h honest l. inr (one_state new t s l (same s h));
   whole = λ s h honest w. tt;
 }
+
+-- nothing was changed
+pub untouched : {T : Type 0} (k : Shelf) (x : T) → Stays Holds (λ _. Unit {0}) (λ _. Unit {0}) (λ k. k.faults) Holds (λ _. Unit {0}) ⊥ k k (Ok x)
+untouched k x = stays k k (Ok x) (λ s held. held) (record { err = tt; ok = refl }) tt
+
+-- other bytes are staged
+abbrev pub with_staged : Shelf → Vec ℕ Global → Shelf
+with_staged k bytes = record {
+  office = k.office;
+  keys = k.keys;
+  boxes = k.boxes;
+  files = k.files;
+  limits = k.limits;
+  receipts = k.receipts;
+  staged = bytes;
+  clerks = k.clerks;
+  faults = k.faults;
+  alloc = k.alloc;
+}
+
+pub still_holds : (k : Shelf) (bytes : Vec ℕ Global) (s : State) → Holds k s → Holds (with_staged k bytes) s
+still_holds k bytes s held = record {
+  offset = held.offset;
+  allowance = held.allowance;
+  keys = held.keys;
+  boxes = held.boxes;
+  files = held.files;
+  receipts = held.receipts;
+  totals = held.totals;
+  clerks = held.clerks;
+  fewer = held.fewer;
+  limits = held.limits;
+}
+
+pub restaged : {T : Type 0} (k : Shelf) (bytes : Vec ℕ Global) (x : T)
+    → Stays Holds (λ _. Unit {0}) (λ _. Unit {0}) (λ k. k.faults) Holds (λ _. Unit {0}) ⊥ k (with_staged k bytes) (Ok x)
+restaged k bytes x = stays k (with_staged k bytes) (Ok x) (still_holds k bytes) (record { err = tt; ok = refl }) tt

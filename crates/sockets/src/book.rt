@@ -4,20 +4,17 @@ use crate::deeds::Deed;
 use crate::door::Door;
 use crate::held::{Held, seat_at};
 use crate::peer::{Peer, Phase};
-use crate::preparing::Limits;
 use crate::rooms::Rooms;
 use crate::rounds::Rounds;
 use crate::socket::Listener;
 use crate::stages::Stage;
 use mio::event::Event;
-use mio::unix::SourceFd;
-use mio::{Events, Interest, Poll, Token};
+use mio::{Events, Poll, Token};
 use std::alloc::{AllocError, Global};
 use std::io::ErrorKind;
 use std::marker::PhantomData;
-use std::os::fd::AsRawFd;
 use std::time::{Duration, Instant};
-use std::{io, mem, time};
+use std::{mem, time};
 use wire::Room;
 
 /// The token of the listener. Every other token is the index of a slot.
@@ -62,8 +59,9 @@ pub struct Book<'a, R, L: Listener> {
     of: PhantomData<L>,
 }
 
-// The lists of a book, empty.
-struct Lists {
+/// The lists of a book, empty.
+#[derive(Drop)]
+pub(crate) struct Lists {
     events: Events,
     ready: Vec<Event>,
     buf: Vec<u8>,
@@ -71,8 +69,8 @@ struct Lists {
 }
 
 impl Lists {
-    // For so many slots.
-    fn new(alloc: Global, slots: usize, now: Instant) -> Result<Lists, AllocError> {
+    /// For so many slots.
+    pub(crate) fn new(alloc: Global, slots: usize, now: Instant) -> Result<Lists, AllocError> {
         let sources = slots.saturating_add(1);
         Ok(Lists {
             events: Events::with_capacity(alloc, sources)?,
@@ -83,16 +81,17 @@ impl Lists {
     }
 }
 
-// What the turns of a book take.
-struct Turns {
+/// What the turns of a book take.
+#[derive(Drop)]
+pub(crate) struct Turns {
     rounds: Rounds,
     rooms: Rooms,
     room: Room,
 }
 
 impl Turns {
-    // For so many slots.
-    fn new(alloc: Global, slots: usize) -> Result<Turns, AllocError> {
+    /// For so many slots.
+    pub(crate) fn new(alloc: Global, slots: usize) -> Result<Turns, AllocError> {
         Ok(Turns {
             rounds: Rounds::with_capacity(alloc, slots)?,
             rooms: Rooms::beside(alloc, slots)?,
@@ -102,38 +101,31 @@ impl Turns {
 }
 
 impl<'a, R: time::Clock, L: Listener> Book<'a, R, L> {
-    /// A book without connections.
-    ///
-    /// # Errors
-    ///
-    /// Memory was refused, or the poll does not take the listener, or the system can't tell the time.
+    /// A book without connections, whose poll has the listener.
     pub(crate) fn new(
         rt: &'a R,
-        poll: Poll,
         alloc: Global,
-        listener: &L,
-        limits: Limits,
-    ) -> io::Result<Book<'a, R, L>> {
-        listener.set_nonblocking(true)?;
-        let fd = listener.as_raw_fd();
-        poll.registry()
-            .register(&mut SourceFd(&fd), LISTENER, Interest::READABLE)?;
-        let now = Instant::now(rt)?;
-        let Turns {
-            rounds,
-            rooms,
-            room,
-        } = Turns::new(alloc, limits.open)?;
+        patience: Option<Duration>,
+        now: Instant,
+        poll: Poll,
+        lists: Lists,
+        turns: Turns,
+    ) -> Book<'a, R, L> {
         let Lists {
             events,
             ready,
             buf,
             peers,
-        } = Lists::new(alloc, limits.open, now)?;
-        Ok(Book {
+        } = lists;
+        let Turns {
+            rounds,
+            rooms,
+            room,
+        } = turns;
+        Book {
             rt,
             alloc,
-            patience: limits.patience,
+            patience,
             poll,
             events,
             ready,
@@ -152,7 +144,7 @@ impl<'a, R: time::Clock, L: Listener> Book<'a, R, L> {
             is_behind: false,
             is_laden: false,
             of: PhantomData,
-        })
+        }
     }
 }
 
@@ -176,7 +168,7 @@ impl<R: time::Clock, L: Listener> Book<'_, R, L> {
 
     /// Makes a turn due.
     pub(crate) fn make_due(&mut self, index: usize) -> Option<Deed> {
-        if self.phase(index) == Phase::Due {
+        if matches!(self.phase(index), Phase::Due) {
             return None;
         }
         match self.push(index) {
@@ -221,7 +213,7 @@ impl<R: time::Clock, L: Listener> Book<'_, R, L> {
 
     /// Closes the connection, if there is one.
     pub(crate) fn release(&self, index: usize) -> Option<Deed> {
-        if self.phase(index) == Phase::Free {
+        if matches!(self.phase(index), Phase::Free) {
             return None;
         }
         Some(Deed::Free)

@@ -21,10 +21,13 @@ impl<R: time::Clock, L: Listener> Book<'_, R, L> {
         slots: &[Option<Held<L::End>>],
         index: usize,
     ) -> Option<Deed> {
-        if !self.peers.get(index)?.is_over(self.patience, self.now) {
+        let Some(peer) = self.peers.get(index) else {
+            return None;
+        };
+        if !peer.is_over(self.patience, self.now) {
             return None;
         }
-        match self.phase(index) {
+        match peer.phase {
             Phase::Answer { .. } => self.cut(slots, index),
             Phase::Leaving { .. } => self.release(index),
             _ => self.give_up(slots, index, ErrorKind::TimedOut),
@@ -36,7 +39,7 @@ impl<R: time::Clock, L: Listener> Book<'_, R, L> {
     pub(crate) fn most_silent(&self) -> Option<usize> {
         let mut oldest: Option<Lasting> = None;
         'slots: for (index, peer) in self.peers.iter().enumerate() {
-            if peer.phase == Phase::Silent && !peer.is_ready && peer.since < self.now {
+            if matches!(peer.phase, Phase::Silent) && !peer.is_ready && peer.since < self.now {
                 oldest = Some(older(oldest, index, peer.since));
             }
         }

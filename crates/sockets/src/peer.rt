@@ -11,7 +11,7 @@ pub(crate) const BODY_STEP: usize = 65_536;
 const LAST_SECONDS: u64 = 1;
 
 /// The phase of a connection.
-#[derive(Clone, Copy, PartialEq, Eq)]
+#[derive(Clone, Copy)]
 pub(crate) enum Phase {
     /// There is no connection.
     Free,
@@ -92,6 +92,12 @@ impl Peer {
             is_new: true,
             room: 0,
         }
+    }
+
+    /// Notes an event of its socket: whether the peer sends no more, and whether bytes may be there.
+    pub(crate) fn note(&mut self, is_closing: bool, is_readable: bool) {
+        self.is_ready |= is_closing | is_readable;
+        self.is_closing |= is_closing;
     }
 
     /// Whether the phase has lasted too long, or no byte of a body came within the timeout.

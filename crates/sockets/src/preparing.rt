@@ -2,12 +2,13 @@
 ghost use Rattle.std.specs.Prelude.{◌≡◌, ℕ, length, IfOk, None};
 ghost use Rattle.seats.specs.Crowds.{slot_at};
 
-use crate::book::Book;
+use crate::book::{Book, LISTENER, Lists, Turns};
 use crate::held::Held;
 use crate::socket::Listener;
-use mio::Poll;
+use mio::unix::SourceFd;
+use mio::{Interest, Poll};
 use std::alloc::{AllocError, Global};
-use std::time::Duration;
+use std::time::{Duration, Instant};
 use std::{io, time};
 
 /// The limits on connections.
@@ -36,9 +37,21 @@ pub fn prepare<'a, L: Listener, R: time::Clock>(
     ensures free { IfOk result (λ prepared. (p : ℕ) → slot_at prepared.1.items p ≡ None) }
     ensures room { IfOk result (λ prepared. length prepared.1.items ≡ limits.«open») }
 {
-    let book = Book::new(rt, poll, alloc, listener, limits)?;
+    watch_listener(&poll, listener)?;
+    let now = Instant::now(rt)?;
+    let turns = Turns::new(alloc, limits.open)?;
+    let lists = Lists::new(alloc, limits.open, now)?;
     let slots = free_slots(alloc, limits.open)?;
+    let book = Book::new(rt, alloc, limits.patience, now, poll, lists, turns);
     Ok((book, slots))
+}
+
+// The poll tells when connections may be accepted, and no call of the listener waits for one.
+fn watch_listener<L: Listener>(poll: &Poll, listener: &L) -> io::Result<()> {
+    listener.set_nonblocking(true)?;
+    let fd = listener.as_raw_fd();
+    poll.registry()
+        .register(&mut SourceFd(&fd), LISTENER, Interest::READABLE)
 }
 
 // This many free slots.

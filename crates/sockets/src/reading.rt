@@ -6,12 +6,41 @@ use crate::peer::{BODY_STEP, Phase};
 use crate::rooms::OWN_ROOM;
 use crate::socket::Listener;
 use std::alloc::AllocError;
-use std::io::ErrorKind;
+use std::io::{ErrorKind, Read};
 use std::time;
-use wire::{Gathering, message_len};
+use wire::{Gathered, Gathering, message_len};
 
 /// The most bytes that one read of a head takes. Bytes after the head are kept for the next messages.
 const HEAD_READ: usize = 4096;
+
+// What is ahead between two turns.
+#[derive(Clone, Copy)]
+enum Ahead {
+    // Nothing.
+    Nothing,
+    // Part of a head.
+    Head,
+    // The head of a message of this many bytes, but not the whole message.
+    Part(usize),
+    // A whole message. Or the reader has failed; the next turn tells it.
+    Whole,
+}
+
+// What the reader has ahead.
+fn ahead_of<S: Read>(reader: &Gathered<S>) -> Ahead {
+    if reader.has_failed() {
+        return Ahead::Whole;
+    }
+    let ahead = reader.ahead();
+    if ahead.is_empty() {
+        return Ahead::Nothing;
+    }
+    match message_len(ahead) {
+        Some(len) if len <= ahead.len() => Ahead::Whole,
+        Some(len) => Ahead::Part(len),
+        None => Ahead::Head,
+    }
+}
 
 impl<R: time::Clock, L: Listener> Book<'_, R, L> {
     /// Reads ahead, if bytes may be there and the message may be read on. Otherwise waits for the socket to
@@ -92,23 +121,17 @@ impl<R: time::Clock, L: Listener> Book<'_, R, L> {
         self.read(slots, index)
     }
 
-    /// Judges what is ahead between two turns: nothing, part of a message, or a whole message. Reads on if
-    /// more is to come. If the reader has failed, the next turn tells it.
+    /// Judges what is ahead between two turns. Reads on if more is to come.
     pub(crate) fn judge(&mut self, slots: &[Option<Held<L::End>>], index: usize) -> Option<Deed> {
-        let reader = &seat_at(slots, index)?.reader.inner;
-        if reader.has_failed() {
-            return self.make_due(index);
-        }
-        let ahead = reader.ahead();
-        if ahead.is_empty() {
-            self.enter(index, Phase::Silent);
-            return self.read(slots, index);
-        }
-        match message_len(ahead) {
-            Some(len) if len <= ahead.len() => return self.make_due(index),
-            Some(len) => return self.ask_room(slots, index, len),
-            None if self.phase(index) == Phase::Head => {}
-            None => self.enter(index, Phase::Head),
+        let Some(seat) = seat_at(slots, index) else {
+            return None;
+        };
+        match ahead_of(&seat.reader.inner) {
+            Ahead::Whole => return self.make_due(index),
+            Ahead::Part(len) => return self.ask_room(slots, index, len),
+            Ahead::Head if matches!(self.phase(index), Phase::Head) => {}
+            Ahead::Head => self.enter(index, Phase::Head),
+            Ahead::Nothing => self.enter(index, Phase::Silent),
         }
         self.read(slots, index)
     }

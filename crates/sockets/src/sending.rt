@@ -5,10 +5,11 @@ use crate::held::{Held, ahead_len, seat_at, waiting_len};
 use crate::peer::Phase;
 use crate::socket::{End, Listener};
 use mio::unix::SourceFd;
-use mio::{Interest, Token};
+use mio::{Interest, Poll, Token};
 use seats::SessionEnd;
 use std::io::ErrorKind;
-use std::{io, time};
+use std::os::fd::RawFd;
+use std::{mem, time};
 use wire::{Room, Sending};
 
 impl<R: time::Clock, L: Listener> Book<'_, R, L> {
@@ -22,9 +23,9 @@ impl<R: time::Clock, L: Listener> Book<'_, R, L> {
         if let Some(room) = room {
             self.room = Some(room);
         }
-        if self.phase(index) != Phase::Due {
+        let Phase::Due = self.phase(index) else {
             return self.listen_to(slots, index);
-        }
+        };
         if ahead_len(slots, index) == 0 {
             self.give_room_back(index);
         }
@@ -62,7 +63,7 @@ impl<R: time::Clock, L: Listener> Book<'_, R, L> {
         }
         self.enter(index, Phase::Answer { mark: waiting });
         self.is_laden = true;
-        if self.watch(slots, index, true).is_err() {
+        if !self.watch(slots, index, true) {
             return self.cut(slots, index);
         }
         None
@@ -71,14 +72,14 @@ impl<R: time::Clock, L: Listener> Book<'_, R, L> {
     // No answer waits any more: reads the next message, or leaves the connection.
     fn go_on(&mut self, slots: &[Option<Held<L::End>>], index: usize) -> Option<Deed> {
         if matches!(self.phase(index), Phase::Answer { .. }) {
-            if self.watch(slots, index, false).is_err() {
+            if !self.watch(slots, index, false) {
                 return self.give_up(slots, index, ErrorKind::Other);
             }
             self.enter(index, Phase::Silent);
         }
         match seat_at(slots, index)?.end() {
             None => self.judge(slots, index),
-            Some(end) if end.is_fault() || is_heard_out(end) => self.release(index),
+            Some(end) if may_close(end) => self.release(index),
             Some(_) => self.leave(slots, index),
         }
     }
@@ -89,34 +90,23 @@ impl<R: time::Clock, L: Listener> Book<'_, R, L> {
         slots: &[Option<Held<L::End>>],
         index: usize,
     ) -> Option<Deed> {
-        if self.peers.get(index)?.is_watched || self.watch(slots, index, false).is_ok() {
+        let Some(peer) = self.peers.get(index) else {
+            return None;
+        };
+        if peer.is_watched || self.watch(slots, index, false) {
             return None;
         }
         self.give_up(slots, index, ErrorKind::Other)
     }
 
-    // Registers the socket for reads and, if answers wait, also for writes.
-    fn watch(
-        &mut self,
-        slots: &[Option<Held<L::End>>],
-        index: usize,
-        is_waiting: bool,
-    ) -> io::Result<()> {
+    // Registers the socket for reads and, if answers wait, also for writes. Returns whether the poll took it.
+    fn watch(&mut self, slots: &[Option<Held<L::End>>], index: usize, is_waiting: bool) -> bool {
         let (Some(seat), Some(peer)) = (seat_at(slots, index), self.peers.get_mut(index)) else {
-            return Ok(());
+            return true;
         };
         let fd = seat.reader.inner.inner.raw_fd();
-        let interests = if is_waiting {
-            Interest::READABLE | Interest::WRITABLE
-        } else {
-            Interest::READABLE
-        };
-        let registry = self.poll.registry();
-        if peer.is_watched {
-            return registry.reregister(&mut SourceFd(&fd), Token(index), interests);
-        }
-        peer.is_watched = true;
-        registry.register(&mut SourceFd(&fd), Token(index), interests)
+        let was_watched = mem::replace(&mut peer.is_watched, true);
+        register(&self.poll, fd, index, interests(is_waiting), was_watched)
     }
 
     /// Cuts off a connection whose peer accepts no answer. Its writes fail from now on.
@@ -127,7 +117,30 @@ impl<R: time::Clock, L: Listener> Book<'_, R, L> {
     }
 }
 
-// Whether everything from the peer was read, so that a close throws nothing away.
-fn is_heard_out(end: SessionEnd) -> bool {
-    matches!(end, SessionEnd::Ended | SessionEnd::Truncated)
+// What a socket is watched for: reads and, if answers wait, also writes.
+fn interests(is_waiting: bool) -> Interest {
+    if is_waiting {
+        Interest::READABLE | Interest::WRITABLE
+    } else {
+        Interest::READABLE
+    }
+}
+
+// Registers the socket of a slot, anew or again. Returns whether the poll took it.
+fn register(poll: &Poll, fd: RawFd, index: usize, interests: Interest, is_again: bool) -> bool {
+    let mut source = SourceFd(&fd);
+    let registered = if is_again {
+        poll.registry()
+            .reregister(&mut source, Token(index), interests)
+    } else {
+        poll.registry()
+            .register(&mut source, Token(index), interests)
+    };
+    registered.is_ok()
+}
+
+// Whether a connection that ended like this may be closed at once: it failed, or everything from the peer was
+// read, so that a close throws nothing away.
+fn may_close(end: SessionEnd) -> bool {
+    end.is_fault() || matches!(end, SessionEnd::Ended | SessionEnd::Truncated)
 }

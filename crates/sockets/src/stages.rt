@@ -6,6 +6,7 @@ use crate::gate::Coming;
 use crate::held::{Held, seat_at};
 use crate::peer::Phase;
 use crate::socket::Listener;
+use mio::Token;
 use mio::event::Event;
 use seats::Due;
 use std::io::ErrorKind;
@@ -108,9 +109,9 @@ impl<R: time::Clock, L: Listener> Book<'_, R, L> {
 
     // The turn of a slot, if it is still due.
     fn turn(&mut self, index: usize) -> Step {
-        if self.phase(index) != Phase::Due {
+        let Phase::Due = self.phase(index) else {
             return Step::Go(None);
-        }
+        };
         let Some(room) = self.take_room() else {
             return self.put_off(index);
         };
@@ -145,11 +146,11 @@ impl<R: time::Clock, L: Listener> Book<'_, R, L> {
             return Step::Go(None);
         };
         self.stage = Stage::Events(at.saturating_add(1));
-        if event.token() == LISTENER {
+        let Token(index) = event.token();
+        if index == LISTENER.0 {
             self.door.knock();
             return Step::Go(None);
         }
-        let index = event.token().0;
         let deed = self.take_up(slots, index, event);
         self.go(index, deed)
     }
@@ -166,15 +167,14 @@ impl<R: time::Clock, L: Listener> Book<'_, R, L> {
         index: usize,
         event: Event,
     ) -> Option<Deed> {
-        let is_closing = event.is_read_closed() || event.is_error();
+        let is_closing = is_closing(event);
         if let Some(peer) = self.peers.get_mut(index) {
-            peer.is_ready = peer.is_ready || is_closing || event.is_readable();
-            peer.is_closing = peer.is_closing || is_closing;
+            peer.note(is_closing, event.is_readable());
         }
         match self.phase(index) {
             Phase::Free | Phase::Waits { .. } | Phase::Due => None,
             Phase::Silent | Phase::Head | Phase::Body { .. } => self.read(slots, index),
-            Phase::Answer { .. } if is_closing || event.is_writable() => Some(Deed::Send),
+            Phase::Answer { .. } if is_closing | event.is_writable() => Some(Deed::Send),
             Phase::Answer { .. } => None,
             Phase::Leaving { .. } => self.throw_away(slots, index),
         }
@@ -337,4 +337,9 @@ impl<R: time::Clock, L: Listener> Book<'_, R, L> {
         }
         self.judge(slots, index)
     }
+}
+
+// Whether the peer sends no more, or has failed.
+fn is_closing(event: Event) -> bool {
+    event.is_read_closed() || event.is_error()
 }

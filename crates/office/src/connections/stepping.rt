@@ -1,6 +1,7 @@
 //! One step of a session: it reads and answers a message, or it ends the session.
 ghost use Rattle.std.specs.Prelude.{◌≡◌, ◌≢◌};
 ghost use Rattle.sigtext.specs.Counts.{Rose};
+ghost use Rattle.office.specs.Handling.{end_of};
 ghost use Rattle.office.specs.Stepping.{IsClosed};
 
 use super::handling::{Handled, send_answer};
@@ -29,6 +30,17 @@ fn close<W: Write>(refusal: Refusal, writer: &mut Counted<W>) -> SessionEnd
     match put_answer(&Answer::refused(refusal, false), writer) {
         Ok(()) => SessionEnd::Refused(refusal.number()),
         Err(_) => SessionEnd::WriteFault,
+    }
+}
+
+// How the session ends after a message that ended like this, if it ends.
+fn end_of(handled: Handled) -> Option<SessionEnd>
+    ensures { result ≡ end_of handled }
+{
+    match handled {
+        Handled::Answered => None,
+        Handled::GaveUp => Some(SessionEnd::Refused(40)),
+        Handled::Broken => Some(SessionEnd::WriteFault),
     }
 }
 
@@ -133,18 +145,19 @@ impl<K: Keeper> Office<K> {
                     length: size as u64,
                     digest,
                 };
-                match self.serve_message(foreseen, &body, to_head, writer, clock) {
-                    Handled::Answered => None,
-                    Handled::GaveUp => Some(SessionEnd::Refused(40)),
-                    Handled::Broken => Some(SessionEnd::WriteFault),
-                }
+                end_of(self.serve_message(foreseen, &body, to_head, writer, clock))
             }
-            Received::Lacking => Some(self.close_lacking(upload, writer)),
+            Received::Lacking => {
+                drop(foreseen);
+                Some(self.close_lacking(upload, writer))
+            }
             Received::Broken => {
+                drop(foreseen);
                 let _ = self.drop_staged(upload);
                 Some(SessionEnd::ReadFault)
             }
             Received::GaveUp => {
+                drop(foreseen);
                 let _ = self.drop_staged(upload);
                 Some(close(Refusal::TryAgain, writer))
             }
@@ -187,6 +200,7 @@ impl<K: Keeper> Office<K> {
         };
         let foreseen = self.foresee(&message);
         if is_given_up(&foreseen) {
+            drop(foreseen);
             return Some(close(Refusal::TryAgain, writer));
         }
         let to_head = asks_head(&message);

@@ -112,7 +112,11 @@ impl<K: Keeper> Office<K> {
     {
         match self.check_moment(&prospect.link, now) {
             Ok(()) => self.run_errand(prospect, body, now),
-            Err(refusal) => self.refuse(is_putting(&prospect.errand), refusal),
+            Err(refusal) => {
+                let upload = is_putting(&prospect.errand);
+                drop(prospect);
+                self.refuse(upload, refusal)
+            }
         }
     }
 
@@ -268,6 +272,7 @@ impl<K: Keeper> Office<K> {
         let to_head = asks_head(&head);
         let upload = is_upload(&foreseen);
         if self.stage_upload(upload, message.body).is_err() {
+            drop(foreseen);
             return Answer::refused(Refusal::TryAgain, to_head);
         }
         let body = Body {

@@ -180,6 +180,7 @@ impl<K: Keeper> Office<K> {
         };
         let errand = self.foresee_errand(&link, method, role, message);
         if is_given_up(&errand) {
+            drop(errand);
             return Err(Refusal::TryAgain);
         }
         Ok(Prospect { link, errand })

@@ -245,9 +245,20 @@ impl<K: Keeper> Office<K> {
             stand,
         };
         match upload(&view, now, link.key_id(), place.in_box, place.name, &bytes) {
-            Uploading::Refused(refusal) => self.let_go(Err(refusal)),
-            Uploading::Again(receipt) => self.let_go(Ok(reply_of(receipt))),
-            Uploading::Taken(file) => self.set_file(file),
+            Uploading::Refused(refusal) => {
+                drop(view);
+                self.let_go(Err(refusal))
+            }
+            Uploading::Again(receipt) => {
+                let reply = reply_of(receipt);
+                drop(view);
+                self.let_go(Ok(reply))
+            }
+            Uploading::Taken(file) => {
+                let reply = self.set_file(file);
+                drop(view);
+                reply
+            }
         }
     }
 }

@@ -1,3 +1,4 @@
+use borrow.Author.Rules.{scaled_Fits}
 use Rattle.std.proofs.Common.{refl}
 use Rattle.seats.proofs.Changing.{by_done, by_kept, done_there, done_to_ended, done_to_none}
 use Rattle.seats.proofs.slots.fail_slot.Goals as goal
@@ -22,3 +23,6 @@ returns-in_default-clause-done g c = done_to_none _ _ _ c.args.slots.now _ c.arg
 
 pub returns-in_default-clause-changes : goal.returns-in_default-clause-changes
 returns-in_default-clause-changes g c = by_kept _ _ c.args.slots.now c.args.index c.index-slots-index.result
+
+pub offset_bounds-slots-index : goal.offset_bounds-slots-index
+offset_bounds-slots-index g c = search scaled_Fits

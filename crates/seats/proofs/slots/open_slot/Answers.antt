@@ -1,3 +1,4 @@
+use borrow.Author.Rules.{scaled_Fits}
 use Rattle.std.proofs.Common.{refl}
 use Rattle.std.specs.Prelude.{None}
 use Rattle.seats.proofs.Changing.{by_comes}
@@ -16,3 +17,6 @@ bounds-slots-index g c = c.in-Some.ensures.some.0
 
 pub returns-in-None-clause-full : goal.returns-in-None-clause-full
 returns-in-None-clause-full g c = (refl, refl, c.in-None.ensures.none)
+
+pub offset_bounds-slots-index : goal.offset_bounds-slots-index
+offset_bounds-slots-index g c = let within = c.in-Some.ensures.some.0 in search scaled_Fits

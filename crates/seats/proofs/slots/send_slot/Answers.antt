@@ -1,3 +1,4 @@
+use borrow.Author.Rules.{scaled_Fits}
 use Rattle.std.proofs.Common.{refl}
 use Rattle.seats.proofs.Changing.{by_kept, by_sent, sent_there, sent_to_none}
 use Rattle.seats.proofs.slots.send_slot.Goals as goal
@@ -15,3 +16,6 @@ returns-in-None-clause-done g c = sent_to_none _ _ _ c.args.slots.now _ c.args.i
 
 pub returns-in-None-clause-changes : goal.returns-in-None-clause-changes
 returns-in-None-clause-changes g c = by_kept _ _ c.args.slots.now c.args.index c.index-slots-index.result
+
+pub offset_bounds-slots-index : goal.offset_bounds-slots-index
+offset_bounds-slots-index g c = search scaled_Fits

@@ -1,3 +1,4 @@
+use borrow.Author.Rules.{scaled_Fits}
 use Rattle.std.proofs.Common.{refl}
 use Rattle.seats.proofs.Changing.{by_done, done_there, done_to_ended, done_to_none}
 use Rattle.seats.proofs.slots.settle_slot.Goals as goal
@@ -21,3 +22,6 @@ returns-in_default-clause-done g c =
 
 pub returns-in_default-clause-changes : goal.returns-in_default-clause-changes
 returns-in_default-clause-changes g c = by_done _ _ _ _ _ _ c.args.index c.requires (returns-in_default-clause-done g c)
+
+pub offset_bounds-slots-index : goal.offset_bounds-slots-index
+offset_bounds-slots-index g c = search scaled_Fits

@@ -1,4 +1,5 @@
-use Rattle.std.proofs.Common.{◌∙◌, drop, length, sym}
+use Rattle.std.proofs.Common.{◌≡◌, ◌∙◌, None, drop, length, subst, sym}
+use Rattle.seats.specs.Crowds.{slot_at}
 use Rattle.service.proofs.Returned.{serves_so, take_first}
 use Rattle.service.proofs.serving.serve.Goals as goal
 
@@ -7,3 +8,6 @@ returns-clause-serves g c =
     let slots = c.serve_through-listener.new.slots in
     let first = take_first slots (drop (length slots) c.in-Ok.prepared.1.items) _ (c.serve_through-listener.auto.slots ∙ c.as_mut_slice.ensures.len) in
     serves_so _ _ slots _ c.at_least_one-open.ensures (sym first) c.serve_through-listener.ensures.serves
+
+pub serve_through-listener-requires-clause-free : goal.serve_through-listener-requires-clause-free
+serve_through-listener-requires-clause-free g c = λ p. subst (λ l. slot_at l p ≡ None) (sym c.as_mut_slice.ensures.value) (c.in-Ok.ensures.free p)

@@ -1,4 +1,5 @@
 use Rattle.std.proofs.Common.{None, ◌∙◌, sym}
+use Rattle.std.proofs.lemmas.Bool.{both_ways}
 use Rattle.std.proofs.lemmas.List.{get_or_default}
 use Rattle.sockets.proofs.Slotted.{if_there}
 use Rattle.sockets.proofs.deeds.is_through_at.Goals as goal
@@ -12,5 +13,5 @@ pub returns-in-Some-clause-busy : goal.returns-in-Some-clause-busy
 returns-in-Some-clause-busy g c = λ no. (
   c.in-Some.seat,
   get_or_default c.args.slots.now c.args.index None c.index-slots-index.result c.requires ∙ (sym c.index-slots-index.is ∙ c.in-Some.is),
-  λ through. absurd (cc (c.is_through.ensures.1 through, no)),
+  λ through. both_ways c.is_through.result no (c.is_through.ensures.1 through),
 )

@@ -53,7 +53,7 @@ pub returns-in-Err-clause-plain : goal.returns-in-Err-clause-plain
 returns-in-Err-clause-plain g c = no_reply _ c.in-Err.refusal c.refuse.result c.refuse.ensures.gives
 
 pub returns-in-Err-clause-unstaged : goal.returns-in-Err-clause-unstaged
-returns-in-Err-clause-unstaged g c (inl putting) = ends_later g.K.Keeper _ _ _ c.in-Err.ensures.rest.never_less (c.refuse.ensures.unstaged (inl (c.is_putting.ensures.1 putting)))
+returns-in-Err-clause-unstaged g c (inl putting) = ends_later g.K.Keeper _ _ _ c.in-Err.ensures.rest.never_less (c.refuse.ensures.unstaged (inl (c.is_putting-upload.ensures.1 putting)))
 returns-in-Err-clause-unstaged g c (inr none) = ends_later g.K.Keeper _ _ _ c.in-Err.ensures.rest.never_less (c.refuse.ensures.unstaged (inr (c.in-Err.ensures.staged _ none)))
 
 pub returns-in-Err-clause-rest : goal.returns-in-Err-clause-rest

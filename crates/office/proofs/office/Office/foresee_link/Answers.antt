@@ -50,3 +50,15 @@ returns-clause-crash g c = λ s means honest. then_adds (c.in-Ok.ensures.crash s
 
 pub returns-clause-rest : goal.returns-clause-rest
 returns-clause-rest g c = holds_then (answered_holds c.in-Ok.ensures.rest) (holds_less (λ given. absurd (clash c.is_given_up.result c.if-is_given_up.false (c.is_given_up.ensures.1 given))) c.foresee_errand-errand.ensures.rest)
+
+pub returns-then-is_given_up-clause-same : goal.returns-then-is_given_up-clause-same
+returns-then-is_given_up-clause-same g c = λ s means. c.foresee_errand-errand.ensures.same s (c.identify.ensures.same s means)
+
+pub returns-then-is_given_up-clause-staged : goal.returns-then-is_given_up-clause-staged
+returns-then-is_given_up-clause-staged g c = λ bytes at. c.foresee_errand-errand.ensures.staged bytes (c.identify.ensures.staged bytes at)
+
+pub returns-clause-same : goal.returns-clause-same
+returns-clause-same g c = λ s means. c.foresee_errand-errand.ensures.same s (c.identify.ensures.same s means)
+
+pub returns-clause-staged : goal.returns-clause-staged
+returns-clause-staged g c = λ bytes at. c.foresee_errand-errand.ensures.staged bytes (c.identify.ensures.staged bytes at)

@@ -7,10 +7,10 @@ use Rattle.boxes.specs.Views.{IsUploadViewOf}
 use Rattle.wire.specs.declared.answer.Reply.{Reply}
 use Rattle.office.specs.Crashes.{Endures, unchanged}
 use Rattle.office.specs.Premise.{WasKept}
-use Rattle.office.specs.Replying.{IsReplied}
+use Rattle.office.specs.Replying.{IsReplied, IsNoRefusal}
 use Rattle.office.specs.Rules.{place_of, upload_of}
 use Rattle.office.proofs.Endurance.{asked_standing, refused_adds, then_adds, then_replied, unset}
-use Rattle.office.proofs.Foreseen.{denied, no_reply, told}
+use Rattle.office.proofs.Foreseen.{denied, no_reply, told, gave_reply, kept_plain, receipt_plain}
 use Rattle.office.proofs.Replies.{asks, brought, again, not_put, sets, set_replied}
 use Rattle.office.proofs.Unstaged.{ends_later, rose_least, asked_holds, then_holds}
 use Rattle.office.proofs.Holding.{holds_then}
@@ -75,8 +75,8 @@ returns-in-Again-clause-replies g c s r p kept is is_put reached path box staged
     let brings = brought means s r c.args.now p reached staged.short staged.octets (omega (arith, c.well_formed)) in
     let view = subst (λ (x : Place). IsUploadViewOf s x c.in-Ok.field-0.view) same (c.in-Ok.ensures.view s still (box ∙ ap (λ (x : Place). get s.boxes x.box) (sym same))) in
     let mid = c.in-Ok.ensures.rest.same s kept.means in
-    told means s r c.args.now c.reply_of.result c.let_go-in-Again.result c.let_go-in-Again.ensures.gives
-    (subst (λ (x : Reply). IsReplied means s r c.args.now (Ok x)) (sym c.reply_of.ensures)
+    told means s r c.args.now c.reply_of-reply.result c.let_go-in-Again.result c.let_go-in-Again.ensures.gives
+    (subst (λ (x : Reply). IsReplied means s r c.args.now (Ok x)) (sym c.reply_of-reply.ensures)
     (again means s r c.args.now p reached c.in-Again.receipt is_put
     (record {
       means = record { meant = c.let_go-in-Again.ensures.same s mid; lasts = unchanged refl (then_adds (asked_standing c.in-Ok.ensures.rest kept.means honest) (c.let_go-in-Again.ensures.crash s mid kept.is_honest)) };
@@ -96,12 +96,12 @@ returns-in-Again-clause-unstaged g c = ends_later g.K.Keeper c.args.self.now.kee
 
 -- ---- the upload is taken
 
-pub returns-clause-replies : goal.returns-clause-replies
-returns-clause-replies g c s r p kept is is_put reached path box staged =
+pub returns-in-Taken-clause-replies : goal.returns-in-Taken-clause-replies
+returns-in-Taken-clause-replies g c s r p kept is is_put reached path box staged =
     let u = upload_of r c.args.now p in
-    let means = Endures g.K.Keeper c.look_up.new.self.keeper c.set_file.new.self.keeper s in
+    let means = Endures g.K.Keeper c.look_up.new.self.keeper c.set_file-reply.new.self.keeper s in
     let still : WasKept g.K.Keeper c.args.self.now.keeper c.look_up.new.self.keeper s =
-    record { means = kept.means; is_honest = c.set_file.ensures.rest.honest kept.is_honest; sound = kept.sound } in
+    record { means = kept.means; is_honest = c.set_file-reply.ensures.rest.honest kept.is_honest; sound = kept.sound } in
     let same = c.read_place-place.ensures ∙ ap place_of path in
     let brings = brought means s r c.args.now p reached staged.short staged.octets (omega (arith, c.well_formed)) in
     let view = subst (λ (x : Place). IsUploadViewOf s x c.in-Ok.field-0.view) same (c.in-Ok.ensures.view s still (box ∙ ap (λ (x : Place). get s.boxes x.box) (sym same))) in
@@ -109,18 +109,18 @@ returns-clause-replies g c s r p kept is is_put reached path box staged =
     (record { length_is = staged.length_is; digest = staged.digest; stand = c.in-Ok.ensures.stand s u still (sym same) staged })
     refl (sym (c.key_id.ensures r p is)) (sym same) in
     let file_set = sets means s r c.args.now p reached c.in-Taken.file brings decided in
-    then_replied c.set_file.new.self.keeper s r c.args.now c.set_file.result
-    (asked_standing c.in-Ok.ensures.rest kept.means (c.set_file.ensures.rest.honest kept.is_honest))
-    (set_replied means s r c.args.now p reached c.in-Taken.file c.set_file.result is_put decided c.set_file.ensures.receipt c.set_file.ensures.again
-    (c.set_file.ensures.sets s (after_upload s u) r.body (record { means = c.in-Ok.ensures.rest.same s kept.means; is_honest = kept.is_honest; sound = kept.sound })
+    then_replied c.set_file-reply.new.self.keeper s r c.args.now c.set_file-reply.result
+    (asked_standing c.in-Ok.ensures.rest kept.means (c.set_file-reply.ensures.rest.honest kept.is_honest))
+    (set_replied means s r c.args.now p reached c.in-Taken.file c.set_file-reply.result is_put decided c.set_file-reply.ensures.receipt c.set_file-reply.ensures.again
+    (c.set_file-reply.ensures.sets s (after_upload s u) r.body (record { means = c.in-Ok.ensures.rest.same s kept.means; is_honest = kept.is_honest; sound = kept.sound })
     (c.in-Ok.ensures.staged r.body staged.staged) file_set))
 
-pub returns-clause-crash : goal.returns-clause-crash
-returns-clause-crash g c s r p kept is is_put reached path box staged =
+pub returns-in-Taken-clause-crash : goal.returns-in-Taken-clause-crash
+returns-in-Taken-clause-crash g c s r p kept is is_put reached path box staged =
     let u = upload_of r c.args.now p in
     let means = g.K.Keeper.means c.look_up.new.self.keeper in
     let still : WasKept g.K.Keeper c.args.self.now.keeper c.look_up.new.self.keeper s =
-    record { means = kept.means; is_honest = c.set_file.ensures.rest.honest kept.is_honest; sound = kept.sound } in
+    record { means = kept.means; is_honest = c.set_file-reply.ensures.rest.honest kept.is_honest; sound = kept.sound } in
     let same = c.read_place-place.ensures ∙ ap place_of path in
     let brings = brought means s r c.args.now p reached staged.short staged.octets (omega (arith, c.well_formed)) in
     let view = subst (λ (x : Place). IsUploadViewOf s x c.in-Ok.field-0.view) same (c.in-Ok.ensures.view s still (box ∙ ap (λ (x : Place). get s.boxes x.box) (sym same))) in
@@ -128,14 +128,14 @@ returns-clause-crash g c s r p kept is is_put reached path box staged =
     (record { length_is = staged.length_is; digest = staged.digest; stand = c.in-Ok.ensures.stand s u still (sym same) staged })
     refl (sym (c.key_id.ensures r p is)) (sym same) in
     let file_set = sets means s r c.args.now p reached c.in-Taken.file brings decided in
-    unset c.set_file.new.self.keeper s (after_upload s u) r c.args.now c.set_file.result
-    (asked_standing c.in-Ok.ensures.rest kept.means (c.set_file.ensures.rest.honest kept.is_honest))
-    (c.set_file.ensures.crash s (after_upload s u) r.body (record { means = c.in-Ok.ensures.rest.same s kept.means; is_honest = kept.is_honest; sound = kept.sound })
+    unset c.set_file-reply.new.self.keeper s (after_upload s u) r c.args.now c.set_file-reply.result
+    (asked_standing c.in-Ok.ensures.rest kept.means (c.set_file-reply.ensures.rest.honest kept.is_honest))
+    (c.set_file-reply.ensures.crash s (after_upload s u) r.body (record { means = c.in-Ok.ensures.rest.same s kept.means; is_honest = kept.is_honest; sound = kept.sound })
     (c.in-Ok.ensures.staged r.body staged.staged) file_set)
-    c.set_file.ensures.again (asks means s r c.args.now p reached c.in-Taken.file is_put decided)
+    c.set_file-reply.ensures.again (asks means s r c.args.now p reached c.in-Taken.file is_put decided)
 
-pub returns-clause-unstaged : goal.returns-clause-unstaged
-returns-clause-unstaged g c = ends_later g.K.Keeper c.args.self.now.keeper c.look_up.new.self.keeper c.set_file.new.self.keeper (omega (arith, c.in-Ok.ensures.rest.count.ok)) c.set_file.ensures.unstaged
+pub returns-in-Taken-clause-unstaged : goal.returns-in-Taken-clause-unstaged
+returns-in-Taken-clause-unstaged g c = ends_later g.K.Keeper c.args.self.now.keeper c.look_up.new.self.keeper c.set_file-reply.new.self.keeper (omega (arith, c.in-Ok.ensures.rest.count.ok)) c.set_file-reply.ensures.unstaged
 
 pub returns-in_default-clause-same : goal.returns-in_default-clause-same
 returns-in_default-clause-same g c = λ s means. on_err_too c.let_go.result (c.let_go.ensures.same s (c.in_default.ensures.rest.same s means))
@@ -155,8 +155,14 @@ returns-in-Again-clause-same g c = λ s means. on_err_too c.let_go-in-Again.resu
 pub returns-in-Again-clause-rest : goal.returns-in-Again-clause-rest
 returns-in-Again-clause-rest g c = holds_then (asked_holds g.K.Keeper _ _ _ c.in-Ok.ensures.rest) c.let_go-in-Again.ensures.rest
 
-pub returns-clause-same : goal.returns-clause-same
-returns-clause-same g c = λ s means. c.set_file.ensures.same s (c.in-Ok.ensures.rest.same s means)
+pub returns-in-Taken-clause-same : goal.returns-in-Taken-clause-same
+returns-in-Taken-clause-same g c = λ s means. c.set_file-reply.ensures.same s (c.in-Ok.ensures.rest.same s means)
 
-pub returns-clause-rest : goal.returns-clause-rest
-returns-clause-rest g c = holds_then (asked_holds g.K.Keeper _ _ _ c.in-Ok.ensures.rest) c.set_file.ensures.rest
+pub returns-in-Taken-clause-rest : goal.returns-in-Taken-clause-rest
+returns-in-Taken-clause-rest g c = holds_then (asked_holds g.K.Keeper _ _ _ c.in-Ok.ensures.rest) c.set_file-reply.ensures.rest
+
+pub returns-in-Again-clause-plain : goal.returns-in-Again-clause-plain
+returns-in-Again-clause-plain g c = gave_reply IsNoRefusal c.reply_of-reply.result c.let_go-in-Again.result c.let_go-in-Again.ensures.gives (kept_plain c.reply_of-reply.result _ _ _ c.reply_of-reply.ensures)
+
+pub returns-in-Taken-clause-plain : goal.returns-in-Taken-clause-plain
+returns-in-Taken-clause-plain g c = receipt_plain c.in-Taken.file c.set_file-reply.result c.set_file-reply.ensures.receipt

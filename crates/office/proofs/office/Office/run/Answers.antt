@@ -1,3 +1,4 @@
+use borrow.Author.Rules.{scaled_Fits}
 use Rattle.std.proofs.Common.{◌≡◌, ◌+◌, ◌<◌, ◌∙◌, cond, inl, length, refl, sym, ap, arith}
 use Rattle.seats.specs.Ends.{is_fault}
 use Rattle.office.proofs.KeeperCalls.{unstaged_then}
@@ -56,3 +57,6 @@ returns-clause-never_less g c = c.connections.invariant.4
 
 pub returns-clause-unstaged : goal.returns-clause-unstaged
 returns-clause-unstaged g c = c.connections.invariant.5
+
+pub offset_bounds-connections-connection-index : goal.offset_bounds-connections-connection-index
+offset_bounds-connections-connection-index g c = search scaled_Fits

@@ -1,3 +1,4 @@
+use Rattle.office.proofs.KeeperCalls.{on_err_too}
 use Rattle.links.proofs.WrittenBytes.{are_bytes}
 use Rattle.office.proofs.Holding.{holds_still}
 use Rattle.office.proofs.Endurance.{asked_standing, still, then_adds}
@@ -26,3 +27,9 @@ returns-else-is_err-clause-crash g c = c.stage_whole-staged.ensures.crash
 
 pub returns-else-is_err-clause-rest : goal.returns-else-is_err-clause-rest
 returns-else-is_err-clause-rest g c = c.stage_whole-staged.ensures.rest
+
+pub returns-then-is_err-clause-asked : goal.returns-then-is_err-clause-asked
+returns-then-is_err-clause-asked g c = on_err_too c.stage_whole-staged.result c.if-not-is_upload.false
+
+pub returns-else-is_err-clause-asked : goal.returns-else-is_err-clause-asked
+returns-else-is_err-clause-asked g c = on_err_too c.stage_whole-staged.result c.if-not-is_upload.false

@@ -1,3 +1,4 @@
+use Rattle.office.proofs.Handlings.{closed_faults, tells_from}
 use Rattle.std.proofs.Common.{[], false, inl, refl, true}
 use Rattle.wire.specs.Feeds.{left, place_of, reader_of}
 use Rattle.wire.specs.declared.fault.WireFault.TheVariants as fault
@@ -86,3 +87,14 @@ returns-in-Err-Memory-clause-unstaged g c = λ none. inl none
 
 pub returns-in-Err-Memory-clause-rest : goal.returns-in-Err-Memory-clause-rest
 returns-in-Err-Memory-clause-rest g c = holds_still
+
+pub returns-in-Ok-Head-clause-faults : goal.returns-in-Ok-Head-clause-faults
+returns-in-Ok-Head-clause-faults g c = tells_from c.serve_head.result (reader_of c.args.feed.now) (reader_of c.read_opening.new.feed) (reader_of c.serve_head.new.feed) c.args.writer.now c.serve_head.new.writer c.in-Ok-Head.ensures.count c.serve_head.ensures.faults
+
+pub returns-in-Err-Memory-clause-faults : goal.returns-in-Err-Memory-clause-faults
+returns-in-Err-Memory-clause-faults g c =
+    let closes = c.close-in-Err-Memory.ensures in
+    closed_faults c.close-in-Err-Memory.result (reader_of c.args.feed.now) (reader_of c.read_opening.new.feed) c.args.writer.now c.close-in-Err-Memory.new.writer (rw c.in-Err-Memory.field-0-is at c.in-Err-Memory.ensures.count) closes.end closes.fault closes.clean
+
+pub returns-in-Ok-Refused-clause-faults : goal.returns-in-Ok-Refused-clause-faults
+returns-in-Ok-Refused-clause-faults g c = closed_faults c.close.result (reader_of c.args.feed.now) (reader_of c.read_opening.new.feed) c.args.writer.now c.close.new.writer c.in-Ok-Refused.ensures.count c.close.ensures.end c.close.ensures.fault c.close.ensures.clean

@@ -3,7 +3,7 @@ use Rattle.seats.specs.declared.session.SessionEnd.TheVariants.{Limit}
 use Rattle.seats.specs.Seats.{left_of}
 use Rattle.office.specs.Seats.{had_ended, went_on, ended}
 use Rattle.seats.proofs.Ends.{none_of, some_of}
-use Rattle.office.proofs.SeatTurns.{steps_of}
+use Rattle.office.proofs.SeatTurns.{steps_of, turn_tells}
 use Rattle.wire.specs.declared.feed.Place.TheVariants as place
 use Rattle.office.proofs.SessionSteps.{none_ends, none_gives_up, not_fresh, serves_none}
 use Rattle.office.proofs.Holding.{holds_less, holds_still}
@@ -70,3 +70,12 @@ returns-in-None-clause-rest g c = holds_less (λ (is : ⊥). absurd is) (rw c.in
 
 pub returns-in-Some-clause-rest : goal.returns-in-Some-clause-rest
 returns-in-Some-clause-rest g c = rw c.in-Some.is at c.step_aside-aside.ensures.rest
+
+pub returns-in-None-clause-faults : goal.returns-in-None-clause-faults
+returns-in-None-clause-faults g c =
+    let was_open = none_of c.args.seat.now.end (sym c.is_some.ensures ∙ c.if-is_some.false) in
+    turn_tells c.args.seat.now _ c.step_aside-aside.result.end was_open (was_open ∙ sym c.in-None.is) c.step_aside-aside.ensures.faults
+
+pub returns-in-Some-clause-faults : goal.returns-in-Some-clause-faults
+returns-in-Some-clause-faults g c =
+    turn_tells c.args.seat.now _ c.step_aside-aside.result.end (none_of c.args.seat.now.end (sym c.is_some.ensures ∙ c.if-is_some.false)) (sym c.in-Some.is) c.step_aside-aside.ensures.faults

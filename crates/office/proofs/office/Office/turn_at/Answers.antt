@@ -1,3 +1,4 @@
+use borrow.Author.Rules.{scaled_Fits}
 use Rattle.std.proofs.Common.{None, refl, sym, subst}
 use Rattle.std.proofs.lemmas.List.{get_or_default}
 use Rattle.office.specs.Crowds.{TurnsSlot}
@@ -25,3 +26,6 @@ returns-clause-unstaged g c = c.turn_slot.ensures.unstaged
 
 pub returns-clause-never_less : goal.returns-clause-never_less
 returns-clause-never_less g c = c.turn_slot.ensures.never_less
+
+pub offset_bounds-slots-index : goal.offset_bounds-slots-index
+offset_bounds-slots-index g c = search scaled_Fits

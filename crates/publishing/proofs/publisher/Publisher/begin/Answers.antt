@@ -1,4 +1,5 @@
 use Rattle.std.proofs.Common.{Some, subst, sym}
+use Rattle.std.proofs.lemmas.Bool.{both_ways}
 use Rattle.publishing.specs.Published.{IsBegun, IsPublished}
 use Rattle.publishing.proofs.Begun.{begun_blank, begun_put, published_put}
 use Rattle.publishing.proofs.publisher.Publisher.begin.Goals as goal
@@ -8,7 +9,7 @@ returns-in-Err-clause-means g c = λ s means blank. (
   subst (λ k. g.K.Keeper.means k s) (sym c.give_up.ensures.keeper) (c.in-Err.ensures.stays.same s means),
   λ honest sound. (
     subst (λ sheet. IsBegun s (g.S.Sheet.text sheet)) (sym c.give_up.ensures.sheet) (begun_blank s _ blank),
-    λ whole. let none = c.give_up.ensures.none in absurd cc,
+    λ whole. absurd (both_ways c.give_up.new.self.is_whole c.give_up.ensures.none whole),
   ),
 )
 

@@ -1,4 +1,5 @@
 use Rattle.std.proofs.Common.{◌++◌, ◌∙◌, map, refl, subst, sym, arith}
+use Rattle.std.proofs.lemmas.Bool.{both_ways}
 use Rattle.std.proofs.lemmas.List.{append-nil}
 use Rattle.seats.specs.Crowds.{those_of}
 use Rattle.sockets.specs.Listening.{accepted}
@@ -28,4 +29,4 @@ returns-in-Err g c = record { passes = misses_one _ _ c.args.self.now _ c.in-Err
 
 pub returns-in-Err-2 : goal.returns-in-Err-2
 returns-in-Err-2 g c =
-    record { passes = refuses_one _ _ c.args.self.now _ c.in-Err.error refl (omega (arith, c.if-self-eq0.false)) refl refl refl refl (λ want. absurd (cc (c.is_want.ensures.all want, c.if-is_want.false))) c.in-Err.ensures.missed; told = (refl, omega (arith, c.if-self-eq0.false), c.in-Err.error, λ want. absurd (cc (c.is_want.ensures.all want, c.if-is_want.false)), c.in-Err.ensures.missed) }
+    record { passes = refuses_one _ _ c.args.self.now _ c.in-Err.error refl (omega (arith, c.if-self-eq0.false)) refl refl refl refl (λ want. both_ways c.is_want.result c.if-is_want.false (c.is_want.ensures.all want)) c.in-Err.ensures.missed; told = (refl, omega (arith, c.if-self-eq0.false), c.in-Err.error, λ want. both_ways c.is_want.result c.if-is_want.false (c.is_want.ensures.all want), c.in-Err.ensures.missed) }

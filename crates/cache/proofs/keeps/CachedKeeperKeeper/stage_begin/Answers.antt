@@ -1,0 +1,5 @@
+use Rattle.cache.proofs.Passed.{passed_on}
+use Rattle.cache.proofs.keeps.CachedKeeperKeeper.stage_begin.Goals as goal
+
+pub returns-clause-rest : goal.returns-clause-rest
+returns-clause-rest g c = passed_on g.K.Keeper c.args.self.now _ c.stage_begin.result c.or_forget.result c.stage_begin.ensures.rest c.or_forget.ensures.same c.or_forget.ensures.stays

@@ -1,0 +1,5 @@
+use Rattle.shelf.proofs.StayLemmas.{untouched}
+use Rattle.shelf.proofs.shelf_keeps.ShelfKeeper.may_use.Goals as goal
+
+pub returns-clause-rest : goal.returns-clause-rest
+returns-clause-rest c = untouched c.args.self.now _
