@@ -36,7 +36,7 @@ returns-then-not-is_record-clause-answers g c =
     λ read source. unanswered _ _ _ _ _ read _ _ refl (λ text known.
     let at = source ∙ ap (option_map strip_bom) known in
     let (after, at_after, more) = rows-more (left_in g.R.Read.remaining) c.args.reader.now c.next_record.new.reader fields default_config StartRecord (strip_bom text) (strip_bom text) [] c.requires.reading.config at (reached_none StartRecord c.args.reader.now.state (strip_bom text) (sym c.requires.begins)) read_one in
-    (λ p is same. not_head (sym (first_record _ _ _ _ fields p more is) ∙ same), refl))
+    (λ p is same. not_head (sym (first_record StartRecord c.next_record.new.reader.state (strip_bom text) after fields p more is) ∙ same), refl))
   where
     not_head : fields_of c.next_record.new.row ≡ map (λ f. f.now) c.args.heads.read.now → ⊥
     not_head same = no_truth (c.if-not-is_record.ensures.1 same)

@@ -1,0 +1,10 @@
+use Rattle.std.proofs.Common.{sym, ap, subst}
+use Rattle.sigtext.specs.Counts.{CountsErrors}
+use Rattle.wire.specs.declared.counted.Counted.{Counted}
+use Rattle.manifests.specs.Lists.{by_reader}
+use Rattle.manifests.proofs.answering.answer_list.Goals as goal
+
+pub returns-clause-reads : goal.returns-clause-reads
+returns-clause-reads g c =
+    let faults = ap (λ (reader : Counted g.row.R.Denot). reader.faults) c.into_inner.ensures in
+    subst (λ n. CountsErrors 0 n (by_reader c.answer_read-end.result)) (sym faults) c.answer_read-end.ensures.reads
