@@ -121,8 +121,7 @@ fn entry_of(line: &BoxLine, rule: NameRule) -> Option<BoxEntry>
         mode_of(line.mode),
         natural(line.used),
         natural(line.count),
-    )
-    else {
+    ) else {
         return None;
     };
     let row = BoxRow {

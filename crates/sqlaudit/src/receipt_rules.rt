@@ -94,8 +94,7 @@ fn entry_of(line: &ReceiptLine) -> Option<(u64, ReceiptEntry<'_>)>
         place_of(line.number),
         natural(line.length),
         natural(line.moment),
-    )
-    else {
+    ) else {
         return None;
     };
     Some((

@@ -1,35 +1,26 @@
 -- The INSERT of a box that a key is limited to, and the UPDATE of the allowance.
-use Rattle.std.proofs.Common.{◌≡◌, inl, ℕ, ℤ, pos, List, [], ◌∷◌, map, drop, Bool, Option, true, false, None, Some, Result, Ok, Err, IfOk, IsTrue, arith, refl, sym, ap, subst, ◌∙◌}
-use Rattle.std.specs.Prelude.{◌↔◌, is_some, IsSome}
+use Rattle.std.proofs.Common.{◌≡◌, inl, ℕ, ℤ, pos, List, [], ◌∷◌, map, drop, true, false, None, Some, Ok, arith, refl, sym, ap, ◌∙◌}
 use Rattle.std.specs.List.{list_all}
 use Rattle.sqlite_value.specs.declared.value.Value.TheVariants.{Null, Int, Text}
 use Rattle.sqlite_value.specs.Order.{Row}
 use Rattle.sqlite_sql.specs.Term.{holds, eval_all}
-use Rattle.sqlite_sql.specs.Program.{overlay}
 use Rattle.sqlite_schema.specs.declared.schema.Kind.TheVariants.{Integer}
 use Rattle.sqlite_rules.specs.Edit.{numbered, next_rowid}
 use Rattle.sqlite_rules.specs.Cast.{cast_row, cast}
-use Rattle.sqlite_rules.specs.Lists.{Has}
 use Rattle.sqlite_rules.specs.declared.error.Rowids.TheVariants.{Chosen}
-use Rattle.sqlite.specs.declared.error.Error.{Error}
-use Rattle.sqlite.specs.State.{State, Executes, Shown}
+use Rattle.sqlite.specs.State.{State, Executes}
 use Rattle.sqlite.specs.Term.{Term, lit, col}
-use Rattle.sqlite.proofs.Callers.{reads_as}
 use Rattle.boxes.specs.State.{Limit}
 use Rattle.sqltables.specs.Schema.{v2, s9}
 use Rattle.sqltables.specs.Tables.{Tables, TablesMean, RowsMean, IsLimitRow, IsRulesRow, put, same_limit}
 use Rattle.sqltables.specs.Changes.{with_limit, with_allowance}
 use Rattle.sqltables.specs.Means.{Holds}
-use Rattle.sqltables.specs.Questions.{AreLimits, HasLimit, ReachesBox, ShowsText, first_text, shown_name}
-use Rattle.sqltables.proofs.Forms.{is}
-use Rattle.sqltables.proofs.AddedTexts.{insert_limit, insert_limit_is, update_allowance, update_allowance_is, select_limits, select_limits_command, select_limits_is}
+use Rattle.sqltables.proofs.AddedTexts.{insert_limit, insert_limit_is, update_allowance, update_allowance_is}
 use Rattle.sqltables.proofs.Ours.{ours_2, limits_at, rules_at, versions_differ}
 use Rattle.sqltables.proofs.Rows.{cast_null, cast_int}
-use Rattle.sqltables.proofs.Runs.{shown_keeps}
 use Rattle.sqltables.proofs.Updates.{HaveRowids}
 use Rattle.sqltables.proofs.Maps.{means_put, means_update, Hits, Sets}
-use Rattle.sqltables.proofs.Keys.{adds_put, tells_limits, tells_bytes}
-use Rattle.sqltables.proofs.Queries.{AreFound, answered}
+use Rattle.sqltables.proofs.Keys.{adds_put, tells_limits}
 use Rattle.sqlchanges.proofs.Steps.{inserts_row, updates_rows}
 
 -- ---- INSERT

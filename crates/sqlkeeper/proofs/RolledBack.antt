@@ -1,5 +1,5 @@
 -- A transaction that was not committed.
-use Rattle.std.proofs.Common.{◌≡◌, ◌∙◌, false, inl, inr, IsTrue, Result, Ok, Err, arith, ap, sym}
+use Rattle.std.proofs.Common.{◌≡◌, ◌∙◌, false, inl, inr, Result, Ok, Err, arith, ap, sym}
 use Rattle.std.specs.Prelude.{IfErr, OnErr}
 use Rattle.sqlite_trees.specs.Tree.{Trees}
 use Rattle.sqlite.specs.declared.error.Error.{Error}

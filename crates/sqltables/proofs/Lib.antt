@@ -25,3 +25,4 @@ pub mod Shown
 pub mod Places
 pub mod Asked
 pub mod Held
+pub mod GatheredCalls

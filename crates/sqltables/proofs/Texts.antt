@@ -13,9 +13,9 @@ use Rattle.sqlite.specs.Listing.{understood}
 use Rattle.sqlite_schema.specs.declared.schema.Schema.{Schema}
 use Rattle.sqlite_rules.specs.Lists.{Has}
 use Rattle.sqlite_rules.proofs.ListLemmas.{all_has}
-use Rattle.sqltables.specs.Schema.{s9, begun_schemas}
+use Rattle.sqltables.specs.Schema.{begun_schemas}
 use Rattle.sqltables.proofs.Forms.{query, some_rows, no_limit, is, rising, falling, whole_number, select, update, delete, insert}
-use Rattle.sqltables.proofs.Says.{Says, Asks, BothSay, BothAsk}
+use Rattle.sqltables.proofs.Says.{Asks, BothSay, BothAsk}
 
 abbrev pub insert_key : List ℕ
 insert_key = codes "INSERT INTO keys VALUES (?1, ?2, ?3, 0)"

@@ -5,7 +5,8 @@ use Rattle.sqlite.specs.State.{HasCleanDisk}
 use Rattle.boxes.specs.State.{Place}
 use Rattle.sqltables.specs.Pieces.{HasPiece, IsPieceAt}
 use Rattle.sqltables.proofs.Gathering.{Gathered, ReadsNext, OpensOurs, gathers, ours_at, whole_at, no_bytes, none_gathered}
-use Rattle.sqlaudit.proofs.Digested.{gathered_goes, gathered_then, lacked_at, next_misfits}
+use Rattle.sqltables.proofs.GatheredCalls.{gathered_goes, gathered_then}
+use Rattle.sqlaudit.proofs.Digested.{lacked_at, next_misfits}
 use Rattle.sqltables.proofs.Onward.{failed, followed, gave_up, succeeded}
 use Rattle.sqlaudit.proofs.digests.find_bytes.Goals as goal
 

@@ -4,6 +4,8 @@ use Rattle.boxes.specs.State.{Place}
 use Rattle.sqlite.specs.State.{HasCleanDisk}
 use Rattle.sqltables.specs.Pieces.{IsPieceAt}
 use Rattle.sqltables.proofs.Gathering.{Gathered, ReadsNext, OpensOurs, gathers, ours_at, whole_at, no_bytes, none_gathered}
+use Rattle.sqltables.proofs.GatheredCalls.{gathered_goes, gathered_then}
+use Rattle.sqltables.proofs.Onward.{failed, followed, succeeded}
 use Rattle.sqltables.proofs.pieces.read_file.Goals as goal
 
 pub loop-tx-init : goal.loop-tx-init
@@ -46,3 +48,21 @@ returns-in_default-clause-read g c v ours has whole inside clean =
     let none = subst (IsPieceAt (mid.now.trees 9) place c.loop-tx.part) c.in_default.is
     (c.in_ok-piece.ensures.read v now.version now.schema (whole_at entry mid place c.args.size bytes c.loop-tx.part c.loop-tx.invariant.1 v first early whole) now.inside clean) in
     no_bytes entry mid place c.args.size bytes c.loop-tx.part c.loop-tx.invariant.1 v first early (search rules) none
+
+pub returns-in_err-piece-clause-rest : goal.returns-in_err-piece-clause-rest
+returns-in_err-piece-clause-rest g c = failed c.from_residual-in_err-piece.result (gathered_then c.loop-tx.invariant.0 c.loop-tx.invariant.1 c.read_piece.ensures.rest) c.from_residual-in_err-piece.ensures.0
+
+pub returns-in_default-clause-rest : goal.returns-in_default-clause-rest
+returns-in_default-clause-rest g c = succeeded _ (gathered_then c.loop-tx.invariant.0 c.loop-tx.invariant.1 c.in_ok-piece.ensures.rest)
+
+pub returns-then-len-min-clause-rest : goal.returns-then-len-min-clause-rest
+returns-then-len-min-clause-rest g c = followed _ (gathered_then c.loop-tx.invariant.0 c.loop-tx.invariant.1 c.in_ok-piece.ensures.rest)
+
+pub returns-in_err-extend_from_slice-clause-rest : goal.returns-in_err-extend_from_slice-clause-rest
+returns-in_err-extend_from_slice-clause-rest g c = failed c.from_residual-in_err-extend_from_slice.result (gathered_then c.loop-tx.invariant.0 c.loop-tx.invariant.1 c.in_ok-piece.ensures.rest) c.from_residual-in_err-extend_from_slice.ensures.0
+
+pub returns-in-None-clause-rest : goal.returns-in-None-clause-rest
+returns-in-None-clause-rest g c = followed _ (gathered_then c.loop-tx.invariant.0 c.loop-tx.invariant.1 c.in_ok-piece.ensures.rest)
+
+pub returns-clause-rest : goal.returns-clause-rest
+returns-clause-rest g c = gathered_goes c.loop-tx.invariant.0 c.loop-tx.invariant.1 _

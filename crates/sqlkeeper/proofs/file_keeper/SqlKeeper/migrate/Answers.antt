@@ -3,7 +3,7 @@ use Rattle.sqlite.specs.Held.{state}
 use Rattle.sqlaudit.specs.Opened.{IsEither, HasNamesOf}
 use Rattle.sqlkeeper.specs.Versions.{IsOfficeFile}
 use Rattle.sqlkeeper.proofs.AtRest.{leaves_kept}
-use Rattle.sqlkeeper.proofs.Migrated.{first_is_whole, second_is_whole, second_means, first_found, first_means, not_first, not_second, adds_still, spares_still, untouched_never}
+use Rattle.sqlkeeper.proofs.Migrated.{first_is_whole, second_is_whole, second_means, first_found, first_means, not_first, not_second, adds_still, spares_still, untouched_never, looks_still}
 use Rattle.sqlkeeper.proofs.Reopened.{accepted, emptied, failed, others, spared, spares}
 use Rattle.sqlkeeper.proofs.Stays.{left_alone}
 use Rattle.sqlkeeper.proofs.file_keeper.SqlKeeper.migrate.Goals as goal
@@ -209,3 +209,17 @@ returns-in-Err-upgrade_file-clause-spares g c ours =
     let found = first_found old mid c.in-Ok-First.ensures.rest (λ clean. c.in-Ok-First.ensures.opened clean (first_is_whole c.in-Ok-First.field-0-is)) c.in-Ok-First.ensures.at_rest
     (λ ours clean was_open. subst (λ f. IsEither f old.now) c.in-Ok-First.field-0-is (c.in-Ok-First.ensures.found ours clean was_open)) ours (c.upgrade_file.ensures.honest clean) in
     (found.0, inl found.1, found.1.sound, c.upgrade_file.ensures.crash found.0 found.2))
+
+pub returns-in-Err-empty_file-clause-kept : goal.returns-in-Err-empty_file-clause-kept
+returns-in-Err-empty_file-clause-kept g c =
+    let old = state g.S.Store c.args.conn in
+    let mid = state g.S.Store c.find_either.new.conn in
+    let new = state g.S.Store c.empty_file.new.conn in
+    looks_still old mid c.in-Ok-Second.ensures.rest new c.empty_file.ensures.honest (λ clean. c.in-Err-empty_file.ensures.kept (c.in-Ok-Second.ensures.at_rest (c.empty_file.ensures.honest clean)).settled clean)
+
+pub returns-in-Err-upgrade_file-clause-kept : goal.returns-in-Err-upgrade_file-clause-kept
+returns-in-Err-upgrade_file-clause-kept g c =
+    let old = state g.S.Store c.args.conn in
+    let mid = state g.S.Store c.find_either.new.conn in
+    let new = state g.S.Store c.upgrade_file.new.conn in
+    looks_still old mid c.in-Ok-First.ensures.rest new c.upgrade_file.ensures.honest (λ clean. c.in-Err-upgrade_file.ensures.kept (c.in-Ok-First.ensures.at_rest (c.upgrade_file.ensures.honest clean)).settled clean)

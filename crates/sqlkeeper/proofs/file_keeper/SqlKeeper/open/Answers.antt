@@ -4,6 +4,7 @@ use Rattle.sqltables.specs.Schema.{v2}
 use Rattle.sqltables.specs.Kept.{KeepsState}
 use Rattle.sqlaudit.specs.Opened.{IsFound}
 use Rattle.sqlkeeper.proofs.AtRest.{sound_is_whole, leaves_kept}
+use Rattle.sqlkeeper.proofs.Migrated.{looks_still}
 use Rattle.sqlkeeper.proofs.Reopened.{accepted, crashes, emptied, failed, means_still, others, spared, spares}
 use Rattle.sqlkeeper.proofs.Stays.{left_alone}
 use Rattle.sqlkeeper.proofs.file_keeper.SqlKeeper.open.Goals as goal
@@ -104,3 +105,10 @@ returns-in-Err-empty_file-clause-spares g c =
     let new = state g.S.Store c.empty_file.new.conn in
     spares old mid c.in-Ok-Sound.ensures.rest (λ clean. c.in-Ok-Sound.ensures.opened clean (sound_is_whole c.in-Ok-Sound.field-0-is)) c.in-Ok-Sound.ensures.at_rest
     (λ ours clean was_open. subst (λ f. IsFound v2 f old.now) c.in-Ok-Sound.field-0-is (c.in-Ok-Sound.ensures.found ours clean was_open)) new c.empty_file.ensures.honest c.empty_file.ensures.crash (KeepsState old) (λ s keeps. keeps)
+
+pub returns-in-Err-empty_file-clause-kept : goal.returns-in-Err-empty_file-clause-kept
+returns-in-Err-empty_file-clause-kept g c =
+    let old = state g.S.Store c.args.conn in
+    let mid = state g.S.Store c.find.new.conn in
+    let new = state g.S.Store c.empty_file.new.conn in
+    looks_still old mid c.in-Ok-Sound.ensures.rest new c.empty_file.ensures.honest (λ clean. c.in-Err-empty_file.ensures.kept (c.in-Ok-Sound.ensures.at_rest (c.empty_file.ensures.honest clean)).settled clean)

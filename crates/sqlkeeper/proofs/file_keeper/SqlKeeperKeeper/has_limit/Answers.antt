@@ -1,6 +1,6 @@
 use Rattle.sqlkeeper.proofs.NotText.{no_limit}
 use Rattle.std.specs.Prelude.{◌↔◌, IsTrue, IfOk}
-use Rattle.std.proofs.Common.{◌≡◌, true, false, subst}
+use Rattle.std.proofs.Common.{subst}
 use Rattle.std.proofs.lemmas.Bool.{false≢true}
 use Rattle.boxes.specs.Limits.{IsLimitedTo}
 use Rattle.sqlkeeper.proofs.file_keeper.SqlKeeperKeeper.has_limit.Goals as goal
