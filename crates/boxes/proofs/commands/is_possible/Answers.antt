@@ -1,5 +1,5 @@
 -- The key that was found is the state's. There are two clerks exactly if another clerk exists.
-use Rattle.std.proofs.Common.{◌≡◌, List, ℕ, ◌≤◌, Option, Some, sym, ap, ◌∙◌, subst}
+use Rattle.std.proofs.Common.{◌≡◌, List, ℕ, ◌≤◌, Option, Some, sym, ap, ◌∙◌, subst, arith}
 use Rattle.std.specs.Prelude.{IsSomeAnd, IsFalse, option_map, ◌↔◌}
 use Rattle.std.specs.FinMap.{get}
 use Rattle.boxes.specs.declared.rows.KeyRow.{KeyRow}
@@ -33,3 +33,30 @@ returns-in-Some c s sound view =
       λ t. subst (IsPossible s) (sym is) (both.0 (test.0 t)),
       λ possible. test.1 (both.1 (subst (IsPossible s) is possible)),
     )
+
+pub returns-else-view : goal.returns-else-view
+returns-else-view c = grind arith
+
+pub returns-in-AddBox : goal.returns-in-AddBox
+returns-in-AddBox c = grind arith
+
+pub returns-in-AddKey : goal.returns-in-AddKey
+returns-in-AddKey c = grind arith
+
+pub returns-in-CloseBox : goal.returns-in-CloseBox
+returns-in-CloseBox c = grind arith
+
+pub returns-in-DropFile : goal.returns-in-DropFile
+returns-in-DropFile c = grind arith
+
+pub returns-in-None : goal.returns-in-None
+returns-in-None c = grind arith
+
+pub returns-in-None-key : goal.returns-in-None-key
+returns-in-None-key c = grind arith
+
+pub returns-in-SetAllowance : goal.returns-in-SetAllowance
+returns-in-SetAllowance c = grind arith
+
+pub returns-then-view : goal.returns-then-view
+returns-then-view c = grind arith

@@ -1,5 +1,5 @@
 -- The code tests each byte, and the whole text for UTF-8.
-use Rattle.std.proofs.Common.{◌∙◌, sym, rules}
+use Rattle.std.proofs.Common.{◌∙◌, sym, rules, arith}
 use Rattle.std.specs.Prelude.{IsUtf8}
 use Rattle.boxes.specs.Sound.{is_rule_byte}
 use Rattle.boxes.proofs.NameTexts.{tells_ok}
@@ -13,3 +13,6 @@ returns-then-is_word c =
       λ t. record { word = word.0 c.if-is_word.true; utf8 = utf8.0 (sym c.is_ok.ensures.value ∙ t) },
       λ is. c.is_ok.ensures.value ∙ utf8.1 is.utf8,
     )
+
+pub returns-else-is_word : goal.returns-else-is_word
+returns-else-is_word c = grind arith

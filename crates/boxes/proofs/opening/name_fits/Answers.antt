@@ -1,5 +1,5 @@
 -- The rule's texts, as the code compares them.
-use Rattle.std.proofs.Common.{◌∙◌, ap, sym, subst, eqb, List, ℕ, rules, tests}
+use Rattle.std.proofs.Common.{◌∙◌, ap, sym, subst, eqb, List, ℕ, rules, tests, arith}
 use Rattle.std.specs.List.{starts_with}
 use Rattle.std.proofs.lemmas.Iterator.{YieldsList-from_slice}
 use Rattle.std.proofs.lemmas.Iterator.Search.{any_from_yields_List}
@@ -27,3 +27,6 @@ returns-in-Ends c =
       λ t. subst (λ r. Fits r name) (sym is) (both.0 t),
       λ fits. both.1 (subst (λ r. Fits r name) is fits),
     )
+
+pub returns-in-Any : goal.returns-in-Any
+returns-in-Any c = grind arith

@@ -14,3 +14,6 @@ returns c =
     let some : 0 < length name = grind (arith, nat_tests) in
     let text : IsUtf8 name = of_ok (IsUtf8 name) _ _ c.from_utf8.result c.from_utf8.ensures.cases (sym c.is_err.ensures.value ∙ c.if-is_err.false) in
     (λ t. record { some = some; text = text; plain = sym each ∙ t }, λ is. each ∙ is.plain)
+
+pub returns-then-is_empty : goal.returns-then-is_empty
+returns-then-is_empty c = grind arith

@@ -1,4 +1,4 @@
-use Rattle.std.proofs.Common.{List, ℕ, Some, sym, ap, subst, ◌∙◌}
+use Rattle.std.proofs.Common.{List, ℕ, Some, sym, ap, subst, ◌∙◌, arith}
 use Rattle.sigv4.specs.Dates.{WritesMoment}
 use Rattle.sigv4.proofs.Moments.{moment_once}
 use Rattle.boxes.specs.Steps.{CloseBox}
@@ -27,3 +27,9 @@ returns-clause-all c command is form =
     let first = cut_once 32 c.args.words.now c.in_ok-name.name.now c.in_ok-name.moment.now b.name b.date c.in_ok-name.ensures b.word b.text in
     let same = moment_once b.date b.moment c.seconds-moment.result b.writes (subst (λ (t : List ℕ). WritesMoment t c.seconds-moment.result) first.1 (rw c.seconds-moment.ensures.value c.in_ok-read_moment.ensures.some)) in
     (λ i. Some (CloseBox (first.0 i) (same i))) ∙ ap Some (sym b.command)
+
+pub returns-in_err-name-clause-some : goal.returns-in_err-name-clause-some
+returns-in_err-name-clause-some c = grind arith
+
+pub returns-in_err-read_moment-clause-some : goal.returns-in_err-read_moment-clause-some
+returns-in_err-read_moment-clause-some c = grind arith

@@ -1,4 +1,4 @@
-use Rattle.std.proofs.Common.{Some, sym, ap, ◌∙◌}
+use Rattle.std.proofs.Common.{Some, sym, ap, ◌∙◌, arith}
 use Rattle.boxes.specs.Steps.{DropFile}
 use Rattle.desk.proofs.Words.{cut_once, not_cut}
 use Rattle.desk.proofs.Commands.{dropped_file, writes_drop}
@@ -17,3 +17,6 @@ returns-clause-all c command is form =
     let d = dropped_file c.args.words.now command is form in
     let first = cut_once 32 c.args.words.now c.in_ok-in_box.in_box.now c.in_ok-in_box.name.now d.place.box d.place.name c.in_ok-in_box.ensures d.word d.text in
     (λ i. Some (DropFile (record { box = first.0 i; name = first.1 i }))) ∙ ap Some (sym d.command)
+
+pub returns-in_err-in_box-clause-some : goal.returns-in_err-in_box-clause-some
+returns-in_err-in_box-clause-some c = grind arith

@@ -1,4 +1,4 @@
-use Rattle.std.proofs.Common.{◌∷◌, ◌++◌, Some, sym, ap, ◌∙◌}
+use Rattle.std.proofs.Common.{◌∷◌, ◌++◌, Some, sym, ap, ◌∙◌, arith}
 use Rattle.boxes.specs.Steps.{AddKey}
 use Rattle.desk.specs.Texts.{role_word}
 use Rattle.desk.proofs.Words.{cut_once, not_cut, role_lacks_space, role_once}
@@ -34,3 +34,12 @@ returns-clause-all c command is form =
     let second = cut_once 32 c.in_ok-id.rest.now c.in_ok-role.role.now c.in_ok-role.secret.now (role_word k.role) k.secret c.in_ok-role.ensures (role_lacks_space k.role) first.1 in
     let role = role_once c.in_ok-role-2.role k.role (sym c.in_ok-role-2.ensures.some ∙ second.0) in
     (λ i. Some (AddKey (first.0 i) (role i) (second.1 i))) ∙ ap Some (sym k.command)
+
+pub returns-in_err-id-clause-some : goal.returns-in_err-id-clause-some
+returns-in_err-id-clause-some c = grind arith
+
+pub returns-in_err-role-2-clause-some : goal.returns-in_err-role-2-clause-some
+returns-in_err-role-2-clause-some c = grind arith
+
+pub returns-in_err-role-clause-some : goal.returns-in_err-role-clause-some
+returns-in_err-role-clause-some c = grind arith

@@ -1,4 +1,4 @@
-use Rattle.std.proofs.Common.{Some, sym, ap, ◌∙◌}
+use Rattle.std.proofs.Common.{Some, sym, ap, ◌∙◌, arith}
 use Rattle.boxes.specs.Steps.{LimitKey}
 use Rattle.desk.proofs.Words.{cut_once, not_cut}
 use Rattle.desk.proofs.Commands.{limited_key, writes_limit}
@@ -17,3 +17,6 @@ returns-clause-all c command is form =
     let k = limited_key c.args.words.now command is form in
     let first = cut_once 32 c.args.words.now c.in_ok-id.id.now c.in_ok-id.in_box.now k.id k.box c.in_ok-id.ensures k.word k.text in
     (λ i. Some (LimitKey (first.0 i) (first.1 i))) ∙ ap Some (sym k.command)
+
+pub returns-in_err-id-clause-some : goal.returns-in_err-id-clause-some
+returns-in_err-id-clause-some c = grind arith

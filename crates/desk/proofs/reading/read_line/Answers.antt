@@ -1,4 +1,4 @@
-use Rattle.std.proofs.Common.{◌≡◌, List, ℕ, Some, sym, subst}
+use Rattle.std.proofs.Common.{◌≡◌, List, ℕ, Some, sym, subst, arith}
 use Rattle.std.specs.Prelude.{codes, option_map, IfOk, IfSome}
 use Rattle.std.proofs.lemmas.Result.{IfErr-weaker}
 use Rattle.boxes.specs.Steps.{Command}
@@ -68,3 +68,6 @@ pub returns-in-Some-strip_prefix-6-clause-all : goal.returns-in-Some-strip_prefi
 returns-in-Some-strip_prefix-6-clause-all c command is form =
     let front = behind_front c.args.line.now (codes "office allow ") c.strip_prefix-7.result c.in-Some-strip_prefix-6.word c.in-Some-strip_prefix-6.is c.strip_prefix-7.ensures.cases in
     c.read_allowance.ensures.all command (subst (λ (t : List ℕ). IsCommand t command) front is) form
+
+pub returns-in-None-clause-all : goal.returns-in-None-clause-all
+returns-in-None-clause-all c = grind arith

@@ -1,4 +1,4 @@
-use Rattle.std.proofs.Common.{Some, [], ◌∷◌, ◌++◌}
+use Rattle.std.proofs.Common.{Some, [], ◌∷◌, ◌++◌, arith}
 use Rattle.desk.proofs.Words.{cut_once, not_cut}
 use Rattle.desk.proofs.settings.cut_words.Goals as goal
 
@@ -97,3 +97,6 @@ returns-in_err-max_files-clause-some c = rw c.from_residual-in_err-max_files.ens
 
 pub returns-in_err-mode-clause-some : goal.returns-in_err-mode-clause-some
 returns-in_err-mode-clause-some c = rw c.from_residual-in_err-mode.ensures tt
+
+pub returns-clause-some : goal.returns-clause-some
+returns-clause-some c = grind arith

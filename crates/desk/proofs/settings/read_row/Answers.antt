@@ -106,3 +106,6 @@ returns-in_err-mode-clause-some c = rw c.from_residual-in_err-mode.ensures tt
 
 pub returns-in_err-mode-clause-all : goal.returns-in_err-mode-clause-all
 returns-in_err-mode-clause-all c = λ b says are. absurd (c.in_err-mode.ensures.none b.mode says.mode)
+
+pub returns-clause-some : goal.returns-clause-some
+returns-clause-some c = grind arith

@@ -1,4 +1,4 @@
-use Rattle.std.proofs.Common.{◌++◌, List, ℕ, Some, ap, sym, ◌∙◌}
+use Rattle.std.proofs.Common.{◌++◌, List, ℕ, Some, ap, sym, ◌∙◌, arith}
 use Rattle.std.specs.Prelude.{codes}
 use Rattle.std.specs.List.{join_with_byte}
 use Rattle.std.proofs.lemmas.List.Splits.{join_with_byte-slice_split}
@@ -20,3 +20,15 @@ pub returns-in_ok-from_slice-in-Some-strip_prefix-clause-some : goal.returns-in_
 returns-in_ok-from_slice-in-Some-strip_prefix-clause-some c =
     behind_front c.args.words.now (codes "begins ") c.strip_prefix-2.result c.in-Some-strip_prefix.text c.in-Some-strip_prefix.is c.strip_prefix-2.ensures.cases
     ∙ ap (λ (t : List ℕ). codes "begins " ++ t) (sym c.in_ok-from_slice-in-Some-strip_prefix.ensures.items)
+
+pub returns-in-None-clause-all : goal.returns-in-None-clause-all
+returns-in-None-clause-all c = grind arith
+
+pub returns-in_err-read_texts-clause-memory : goal.returns-in_err-read_texts-clause-memory
+returns-in_err-read_texts-clause-memory c = grind arith
+
+pub returns-in_ok-from_slice-in-Some-strip_prefix-clause-all : goal.returns-in_ok-from_slice-in-Some-strip_prefix-clause-all
+returns-in_ok-from_slice-in-Some-strip_prefix-clause-all c = grind arith
+
+pub returns-then-eq-clause-all : goal.returns-then-eq-clause-all
+returns-then-eq-clause-all c = grind arith

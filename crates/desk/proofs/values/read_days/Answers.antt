@@ -2,6 +2,7 @@ use Rattle.std.proofs.Common.{◌≡◌, ◌<◌, ℕ, Bool, List, length, get_o
 use Rattle.std.specs.Prelude.{IfNone}
 use Rattle.desk.specs.Texts.{day_digit, days_word}
 use Rattle.std.proofs.lemmas.Slice.Eq.{text_from_reads}
+use Rattle.std.proofs.lemmas.Grind.{common_steps}
 use Rattle.desk.proofs.Words.{no_day}
 use Rattle.desk.proofs.values.read_days.Goals as goal
 
@@ -33,3 +34,51 @@ returns-in_err-read_day-7-clause-none c = no_days c.args.word.now _ 6 (omega ari
 
 pub returns-clause-some : goal.returns-clause-some
 returns-clause-some c = text_from_reads c.args.word.now _ (omega arith) (c.in_ok-read_day.ensures.some, (c.in_ok-read_day-2.ensures.some, (c.in_ok-read_day-3.ensures.some, (c.in_ok-read_day-4.ensures.some, (c.in_ok-read_day-5.ensures.some, (c.in_ok-read_day-6.ensures.some, (c.in_ok-read_day-7.ensures.some, tt)))))))
+
+pub bounds-word-0 : goal.bounds-word-0
+bounds-word-0 c = grind arith
+
+pub bounds-word-1 : goal.bounds-word-1
+bounds-word-1 c = grind arith
+
+pub bounds-word-2 : goal.bounds-word-2
+bounds-word-2 c = grind arith
+
+pub bounds-word-3 : goal.bounds-word-3
+bounds-word-3 c = grind arith
+
+pub bounds-word-4 : goal.bounds-word-4
+bounds-word-4 c = grind arith
+
+pub bounds-word-5 : goal.bounds-word-5
+bounds-word-5 c = grind arith
+
+pub bounds-word-6 : goal.bounds-word-6
+bounds-word-6 c = grind arith
+
+pub returns-in_default-2-clause-none : goal.returns-in_default-2-clause-none
+returns-in_default-2-clause-none c = grind (arith, common_steps)
+
+pub returns-in_default-clause-none : goal.returns-in_default-clause-none
+returns-in_default-clause-none c = grind (arith, common_steps)
+
+pub returns-in_err-read_day-2-clause-some : goal.returns-in_err-read_day-2-clause-some
+returns-in_err-read_day-2-clause-some c = grind arith
+
+pub returns-in_err-read_day-3-clause-some : goal.returns-in_err-read_day-3-clause-some
+returns-in_err-read_day-3-clause-some c = grind arith
+
+pub returns-in_err-read_day-4-clause-some : goal.returns-in_err-read_day-4-clause-some
+returns-in_err-read_day-4-clause-some c = grind arith
+
+pub returns-in_err-read_day-5-clause-some : goal.returns-in_err-read_day-5-clause-some
+returns-in_err-read_day-5-clause-some c = grind arith
+
+pub returns-in_err-read_day-6-clause-some : goal.returns-in_err-read_day-6-clause-some
+returns-in_err-read_day-6-clause-some c = grind arith
+
+pub returns-in_err-read_day-7-clause-some : goal.returns-in_err-read_day-7-clause-some
+returns-in_err-read_day-7-clause-some c = grind arith
+
+pub returns-in_err-read_day-clause-some : goal.returns-in_err-read_day-clause-some
+returns-in_err-read_day-clause-some c = grind arith

@@ -1,4 +1,5 @@
 use Rattle.std.proofs.Common.{arith, ap, length}
+use Rattle.std.proofs.lemmas.Grind.{common_steps}
 use borrow.Author.Rules.{rules}
 use borrow.Author.Tests.{tests}
 use Rattle.desk.proofs.Words.{no_mode}
@@ -87,3 +88,39 @@ returns-in_default-clause-none c = no_mode _ (λ is. omega (arith, ap length is,
 
 pub returns-in_default-clause-some : goal.returns-in_default-clause-some
 returns-in_default-clause-some c = tt
+
+pub bounds-word-0 : goal.bounds-word-0
+bounds-word-0 c = grind arith
+
+pub bounds-word-0-then-word-lt8 : goal.bounds-word-0-then-word-lt8
+bounds-word-0-then-word-lt8 c = grind arith
+
+pub bounds-word-1 : goal.bounds-word-1
+bounds-word-1 c = grind arith
+
+pub bounds-word-1-in-114-1 : goal.bounds-word-1-in-114-1
+bounds-word-1-in-114-1 c = grind arith
+
+pub bounds-word-2 : goal.bounds-word-2
+bounds-word-2 c = grind arith
+
+pub bounds-word-2-in-101-word-6 : goal.bounds-word-2-in-101-word-6
+bounds-word-2-in-101-word-6 c = grind arith
+
+pub bounds-word-3 : goal.bounds-word-3
+bounds-word-3 c = grind arith
+
+pub bounds-word-3-in-112-word-7 : goal.bounds-word-3-in-112-word-7
+bounds-word-3-in-112-word-7 c = grind arith
+
+pub bounds-word-4 : goal.bounds-word-4
+bounds-word-4 c = grind arith
+
+pub bounds-word-5 : goal.bounds-word-5
+bounds-word-5 c = grind arith
+
+pub bounds-word-6 : goal.bounds-word-6
+bounds-word-6 c = grind arith
+
+pub returns-in-keep-clause-some : goal.returns-in-keep-clause-some
+returns-in-keep-clause-some c = grind (arith, common_steps)

@@ -1,6 +1,7 @@
 use borrow.Author.Rules.{rules}
 use borrow.Author.Tests.{tests}
 use Rattle.std.proofs.Common.{arith, ap, length}
+use Rattle.std.proofs.lemmas.Grind.{common_steps}
 use Rattle.desk.proofs.Words.{no_role}
 use Rattle.desk.proofs.values.read_role.Goals as goal
 
@@ -69,3 +70,36 @@ returns-in_default-11-clause-some c = tt
 
 pub returns-in_default-11-clause-none : goal.returns-in_default-11-clause-none
 returns-in_default-11-clause-none c = no_role _ (λ is. omega (arith, ap length is, c.in_default.len_at_least)) (λ is. omega (arith, ap length is, c.in_default.len_at_least))
+
+pub bounds-word-0 : goal.bounds-word-0
+bounds-word-0 c = grind arith
+
+pub bounds-word-0-then-word-lt6 : goal.bounds-word-0-then-word-lt6
+bounds-word-0-then-word-lt6 c = grind arith
+
+pub bounds-word-1 : goal.bounds-word-1
+bounds-word-1 c = grind arith
+
+pub bounds-word-1-in-99-1 : goal.bounds-word-1-in-99-1
+bounds-word-1-in-99-1 c = grind arith
+
+pub bounds-word-2 : goal.bounds-word-2
+bounds-word-2 c = grind arith
+
+pub bounds-word-2-in-108-word-6 : goal.bounds-word-2-in-108-word-6
+bounds-word-2-in-108-word-6 c = grind arith
+
+pub bounds-word-3 : goal.bounds-word-3
+bounds-word-3 c = grind arith
+
+pub bounds-word-3-in-101-1 : goal.bounds-word-3-in-101-1
+bounds-word-3-in-101-1 c = grind arith
+
+pub bounds-word-4 : goal.bounds-word-4
+bounds-word-4 c = grind arith
+
+pub returns-in-clerk-clause-some : goal.returns-in-clerk-clause-some
+returns-in-clerk-clause-some c = grind (arith, common_steps)
+
+pub returns-in-link-clause-some : goal.returns-in-link-clause-some
+returns-in-link-clause-some c = grind (arith, common_steps)

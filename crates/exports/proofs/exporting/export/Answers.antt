@@ -1,4 +1,4 @@
-use Rattle.std.proofs.Common.{[], ◌++◌, refl, subst}
+use Rattle.std.proofs.Common.{[], ◌++◌, refl, subst, arith}
 use Rattle.std.proofs.lemmas.Result.{err_from_is_err_and}
 use Rattle.std.specs.FinMap.{entries}
 use Rattle.sigtext.specs.Counts.{CountsErrors}
@@ -49,3 +49,12 @@ returns-clause-files_count g c = subst (λ n. CountsErrors n c.export_files.new.
 
 pub returns-clause-sums_count : goal.returns-clause-sums_count
 returns-clause-sums_count g c = c.export_files.ensures.sums_count
+
+pub returns-clause-stays : goal.returns-clause-stays
+returns-clause-stays g c = grind arith
+
+pub returns-in_err-send_head-clause-files_count : goal.returns-in_err-send_head-clause-files_count
+returns-in_err-send_head-clause-files_count g c = grind arith
+
+pub returns-in_err-send_head-clause-sums_count : goal.returns-in_err-send_head-clause-sums_count
+returns-in_err-send_head-clause-sums_count g c = grind arith

@@ -1,4 +1,4 @@
-use Rattle.std.proofs.Common.{◌≡◌, ◌∙◌, [], ◌∷◌, Result, Err, sym, ap, subst}
+use Rattle.std.proofs.Common.{◌≡◌, ◌∙◌, [], ◌∷◌, Result, Err, sym, ap, subst, arith}
 use Rattle.std.proofs.lemmas.Result.{err_from_is_err_and}
 use Rattle.boxes.specs.State.{File, Place}
 use Rattle.keeper.specs.Bound.{StaysBy}
@@ -50,3 +50,6 @@ write_file-requires-clause-folder g c = c.in_ok-texts.ensures.folder.1
 
 pub write_file-requires-clause-name : goal.write_file-requires-clause-name
 write_file-requires-clause-name g c = c.in_ok-texts.ensures.name.1
+
+pub returns-in_err-file-clause-stays : goal.returns-in_err-file-clause-stays
+returns-in_err-file-clause-stays g c = grind arith

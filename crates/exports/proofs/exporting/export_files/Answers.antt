@@ -1,4 +1,4 @@
-use Rattle.std.proofs.Common.{◌≡◌, ◌∙◌, Err, refl, sym, subst}
+use Rattle.std.proofs.Common.{◌≡◌, ◌∙◌, Err, refl, sym, subst, arith}
 use Rattle.std.proofs.lemmas.Result.{err_from_is_err_and}
 use Rattle.std.specs.declared.cmp.Ordering.TheVariants.{Less}
 use Rattle.boxes.specs.State.{Place, place_cmp}
@@ -71,3 +71,30 @@ files-preserved g c = record {
 pub returns-clause-sent : goal.returns-clause-sent
 returns-clause-sent g c = λ s meant.
     walk_breaks s (files_in (named_box c.args.in_box) s) (place_in c.files.after) _ _ _ (c.files.invariant.walked s meant)
+
+pub returns-clause-files_count : goal.returns-clause-files_count
+returns-clause-files_count g c = grind arith
+
+pub returns-clause-stays : goal.returns-clause-stays
+returns-clause-stays g c = grind arith
+
+pub returns-clause-sums_count : goal.returns-clause-sums_count
+returns-clause-sums_count g c = grind arith
+
+pub returns-in_default-clause-files_count : goal.returns-in_default-clause-files_count
+returns-in_default-clause-files_count g c = grind arith
+
+pub returns-in_default-clause-stays : goal.returns-in_default-clause-stays
+returns-in_default-clause-stays g c = grind arith
+
+pub returns-in_default-clause-sums_count : goal.returns-in_default-clause-sums_count
+returns-in_default-clause-sums_count g c = grind arith
+
+pub returns-in_err-after-clause-stays : goal.returns-in_err-after-clause-stays
+returns-in_err-after-clause-stays g c = grind arith
+
+pub returns-in_err-export_file-clause-files_count : goal.returns-in_err-export_file-clause-files_count
+returns-in_err-export_file-clause-files_count g c = grind arith
+
+pub returns-in_err-export_file-clause-sums_count : goal.returns-in_err-export_file-clause-sums_count
+returns-in_err-export_file-clause-sums_count g c = grind arith

@@ -1,4 +1,4 @@
-use Rattle.std.proofs.Common.{List, ℕ, Option, Some, None, Vec, Global, sym, subst}
+use Rattle.std.proofs.Common.{List, ℕ, Option, Some, None, Vec, Global, sym, subst, arith}
 use Rattle.sigtext.specs.Bytes.{bytes_cmp}
 use Rattle.boxes.specs.State.{place_cmp}
 use Rattle.manifests.specs.Asking.{stays_err, stays_ok}
@@ -31,3 +31,6 @@ returns-in-Ok-None-clause-stays g c = stays_ok _ _ _ c.in-Ok-None.ensures.rest
 
 pub returns-in-Err-clause-stays : goal.returns-in-Err-clause-stays
 returns-in-Err-clause-stays g c = stays_err _ _ _ c.in-Err.ensures.rest
+
+pub returns-in-Ok-clause-inside : goal.returns-in-Ok-clause-inside
+returns-in-Ok-clause-inside g c = grind arith

@@ -1,4 +1,4 @@
-use Rattle.std.proofs.Common.{Ok, refl}
+use Rattle.std.proofs.Common.{Ok, refl, arith}
 use Rattle.manifests.proofs.AnsweredLists.{sends_err, sends_whole}
 use Rattle.exports.proofs.exporting.send_head.Goals as goal
 
@@ -13,3 +13,12 @@ returns-in-Err-clause-sums_count g c = refl
 
 pub returns-in-Err-clause-keeper : goal.returns-in-Err-clause-keeper
 returns-in-Err-clause-keeper g c = refl
+
+pub returns-in-Err : goal.returns-in-Err
+returns-in-Err g c = grind arith
+
+pub returns-in-Err-Write-clause-files_count : goal.returns-in-Err-Write-clause-files_count
+returns-in-Err-Write-clause-files_count g c = grind arith
+
+pub returns-in-Ok-clause-files_count : goal.returns-in-Ok-clause-files_count
+returns-in-Ok-clause-files_count g c = grind arith

@@ -1,4 +1,4 @@
-use Rattle.std.proofs.Common.{Ok}
+use Rattle.std.proofs.Common.{Ok, arith}
 use Rattle.wire.proofs.Written.{sends_same}
 use Rattle.manifests.proofs.AnsweredLists.{sends_err, sends_none, sends_nothing, sends_whole}
 use Rattle.exports.proofs.SentFiles.{put_same}
@@ -36,3 +36,18 @@ returns-in-Err-send-2-clause-put g c = put_same _ _ _ _ _ _ _ _ c.deref.ensures.
 
 pub returns-in-Err-send-clause-put : goal.returns-in-Err-send-clause-put
 returns-in-Err-send-clause-put g c = put_same _ _ _ _ _ _ _ _ c.deref.ensures.value c.deref-2.ensures.value c.deref-3.ensures.value c.in_default.ensures.put
+
+pub put-requires-clause-folder : goal.put-requires-clause-folder
+put-requires-clause-folder g c = grind arith
+
+pub returns-in-Err-clause-put : goal.returns-in-Err-clause-put
+returns-in-Err-clause-put g c = grind arith
+
+pub returns-in-Err-send-2-clause-files_count : goal.returns-in-Err-send-2-clause-files_count
+returns-in-Err-send-2-clause-files_count g c = grind arith
+
+pub returns-in-Ok-clause-files_count : goal.returns-in-Ok-clause-files_count
+returns-in-Ok-clause-files_count g c = grind arith
+
+pub returns-in-Ok-clause-sums_count : goal.returns-in-Ok-clause-sums_count
+returns-in-Ok-clause-sums_count g c = grind arith

@@ -1,6 +1,7 @@
 use Rattle.std.proofs.Common.{arith, ◌∙◌, [], ◌∷◌, ◌++◌, length, refl, sym, ap, append_assoc, length-append}
 use Rattle.std.specs.Prelude.{◌==◌}
 use Rattle.std.proofs.lemmas.Bool.{false≢true}
+use Rattle.std.proofs.lemmas.Grind.{common_steps}
 use borrow.Author.Tests.{eqb-true}
 use Rattle.exports.proofs.Parts.{cleaned_more}
 use Rattle.exports.proofs.names.push_part.Goals as goal
@@ -32,3 +33,15 @@ returns c =
       },
       items,
     )
+
+pub bytes-init : goal.bytes-init
+bytes-init c = grind (arith, common_steps)
+
+pub cleaned-requires-clause-are : goal.cleaned-requires-clause-are
+cleaned-requires-clause-are c = grind arith
+
+pub cleaned-requires-clause-end : goal.cleaned-requires-clause-end
+cleaned-requires-clause-end c = grind arith
+
+pub cleaned-requires-clause-inside : goal.cleaned-requires-clause-inside
+cleaned-requires-clause-inside c = grind arith

@@ -1,4 +1,4 @@
-use Rattle.std.proofs.Common.{List, ℕ, subst}
+use Rattle.std.proofs.Common.{List, ℕ, subst, arith}
 use Rattle.boxes.specs.Rows.{file_of, receipt_in}
 use Rattle.lists.specs.Places.{place_in}
 use Rattle.exports.specs.Exports.{IsRecord}
@@ -11,3 +11,12 @@ returns-clause-row c = λ moment.
       subst (λ (p : List ℕ). IsRecord p (place_in c.args.place.now) (file_of c.args.file.now) (receipt_in c.args.file.now.receipt) fields) c.deref-3.ensures.value are,
       is,
     )
+
+pub returns-clause-path : goal.returns-clause-path
+returns-clause-path c = grind arith
+
+pub returns-clause-sum : goal.returns-clause-sum
+returns-clause-sum c = grind arith
+
+pub row_text-requires : goal.row_text-requires
+row_text-requires c = grind arith

@@ -1,4 +1,4 @@
-use Rattle.std.proofs.Common.{◌≡◌, ◌≢◌, ℕ, List, map, refl, sym, subst, ◌∙◌}
+use Rattle.std.proofs.Common.{◌≡◌, ◌≢◌, ℕ, List, map, refl, sym, subst, ◌∙◌, arith}
 use Rattle.sigtext.specs.declared.refusal.Refusal.TheVariants.{TryAgain}
 use Rattle.sigtext.specs.declared.refusal.Refusal.TheVariants as rule
 use Rattle.sigtext.specs.Fields.{header_of}
@@ -120,3 +120,6 @@ pub invariant_of-result : goal.invariant_of-result
 invariant_of-result c =
     let (before, long, start, expires, held) = c.in_ok-window.ensures.ok in
     record { scope_fits = scope_fits _ _ before.key_id before.scope _ held.credential long }
+
+pub returns-then-not-is_hex_digest-clause-named : goal.returns-then-not-is_hex_digest-clause-named
+returns-then-not-is_hex_digest-clause-named c = grind arith

@@ -16,3 +16,6 @@ returns-else-not-is_empty c = (
   λ t. absurd (false≢true (sym (ap not c.if-not-is_empty.false) ∙ t)),
   λ (rest, is). absurd (omega (arith, eqb-true (length c.args.path.now) 0 (sym c.if-not-is_empty.ensures), ap length is)),
 )
+
+pub bounds-path-0 : goal.bounds-path-0
+bounds-path-0 c = grind arith

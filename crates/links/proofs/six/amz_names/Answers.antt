@@ -1,4 +1,4 @@
-use Rattle.std.proofs.Common.{sym, ◌∙◌}
+use Rattle.std.proofs.Common.{sym, ◌∙◌, arith}
 use Rattle.percent_encoding.specs.Percent.{percent_decode}
 use Rattle.links.specs.WellFormed.{is_signing_name, is_other_amz_name}
 use Rattle.links.proofs.AmzNames.{signing_is_no_other, other_begins, no_other_begins}
@@ -36,3 +36,12 @@ loop-raw-preserved c =
       signing = λ params spelled. any_more is_signing_name params _ _ _ c.in-Some.raw c.in-Some.ensures.steps unsigned (c.loop-raw.invariant.signing params spelled);
       other = λ params spelled. any_more is_other_amz_name params _ _ _ c.in-Some.raw c.in-Some.ensures.steps no_other (c.loop-raw.invariant.other params spelled);
     }
+
+pub loop-raw-init : goal.loop-raw-init
+loop-raw-init c = grind arith
+
+pub returns-clause-other : goal.returns-clause-other
+returns-clause-other c = grind arith
+
+pub returns-clause-signing : goal.returns-clause-signing
+returns-clause-signing c = grind arith

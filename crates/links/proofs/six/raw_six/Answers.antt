@@ -1,3 +1,4 @@
+use Rattle.std.proofs.Common.{arith}
 use Rattle.links.proofs.SixLemmas.{not_once}
 use Rattle.links.proofs.six.raw_six.Goals as goal
 use Rattle.links.proofs.six.raw_six.Goals.{in_default-via-in_default, in_default-via-in-Some+in_default, in_default-via-in-Some+in-Some+in_default, in_default-via-in-Some+in-Some+in-Some+in_default, in_default-via-in-Some+in-Some+in-Some+in-Some+in_default, in_default-via-in-Some+in-Some+in-Some+in-Some+in-Some+in_default}
@@ -24,3 +25,6 @@ returns-clause-some c ps holds =
       names = all.ensures''''.some ps holds;
       signature = all.ensures'''''.some ps holds;
     }
+
+pub returns-clause-none : goal.returns-clause-none
+returns-clause-none c = grind arith

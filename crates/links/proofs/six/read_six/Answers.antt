@@ -1,4 +1,4 @@
-use Rattle.std.proofs.Common.{sym, ◌∙◌}
+use Rattle.std.proofs.Common.{sym, ◌∙◌, arith}
 use Rattle.sigtext.proofs.NamedParams.{stand_once}
 use Rattle.links.proofs.Texts.{not_false}
 use Rattle.links.proofs.SixLemmas.{six_there}
@@ -18,3 +18,18 @@ returns-in-Ok-clause-ok c path params spelled =
       holds = holds;
       values = c.in-Ok.ensures params raw;
     }
+
+pub returns-clause-err : goal.returns-clause-err
+returns-clause-err c = grind arith
+
+pub returns-clause-named : goal.returns-clause-named
+returns-clause-named c = grind arith
+
+pub returns-in_default-clause-err : goal.returns-in_default-clause-err
+returns-in_default-clause-err c = grind arith
+
+pub returns-then-names-clause-err : goal.returns-then-names-clause-err
+returns-then-names-clause-err c = grind arith
+
+pub returns-then-not-names-clause-err : goal.returns-then-not-names-clause-err
+returns-then-not-names-clause-err c = grind arith

@@ -1,4 +1,4 @@
-use Rattle.std.proofs.Common.{List, ℕ, map, take, refl, sym, ap, subst, ◌≡◌, ◌∙◌}
+use Rattle.std.proofs.Common.{List, ℕ, map, take, refl, sym, ap, subst, ◌≡◌, ◌∙◌, arith}
 use Rattle.std.proofs.lemmas.Result.{IfOk-weaker}
 use Rattle.std.proofs.lemmas.Simd.{map-map}
 use Rattle.sigtext.specs.Fields.{header_of}
@@ -72,3 +72,6 @@ returns c =
     IfOk-weaker c.final_text.result _ _ (λ out wrote.
     let (query, query_is, is) = wrote (draft_params five t.params) are.params in
     link_from t five scope hs c.signature-digits.result out.items request query c.requires texts draft.path_bytes draft.param_bytes only same query_is is) c.final_text.ensures
+
+pub slice_bounds-final_text-end : goal.slice_bounds-final_text-end
+slice_bounds-final_text-end c = grind arith

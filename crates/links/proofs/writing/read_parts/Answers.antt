@@ -1,4 +1,4 @@
-use Rattle.std.proofs.Common.{List, ℕ, map, refl, sym, subst}
+use Rattle.std.proofs.Common.{List, ℕ, map, refl, sym, subst, arith}
 use Rattle.sigtext.specs.Fields.{header_of}
 use Rattle.sigtext.specs.SignedNames.{AreSignedNames}
 use Rattle.sigtext.specs.SignedValues.{ValueRule}
@@ -33,3 +33,6 @@ returns-in-Ok-signed_values c path params is =
       params = c.in-Ok-read.ensures.ok path params spelled;
       headers = known_values headers ns (values_of c.in-Ok-signed_values.values) headers (c.in-Ok-signed_values.ensures.ok ns names) c.requires.values;
     }
+
+pub unreachable-requires-in_default-read : goal.unreachable-requires-in_default-read
+unreachable-requires-in_default-read c = grind arith

@@ -1,3 +1,4 @@
+use Rattle.std.proofs.Common.{arith}
 use Rattle.manifests.specs.Asking.{stays_err, stays_joined, stays_ok}
 use Rattle.lists.proofs.box_list.next_box.Goals as goal
 
@@ -78,3 +79,15 @@ returns-in-Ok-clause-stays g c = stays_joined _ _ _ _ (stays_joined _ _ _ _ (sta
 
 pub returns-in-Ok-clause-fault : goal.returns-in-Ok-clause-fault
 returns-in-Ok-clause-fault g c = tt
+
+pub returns-in-Ok-None-clause-next : goal.returns-in-Ok-None-clause-next
+returns-in-Ok-None-clause-next g c = grind arith
+
+pub returns-in-Ok-clause-next : goal.returns-in-Ok-clause-next
+returns-in-Ok-clause-next g c = grind arith
+
+pub returns-in-Ok-clause-row : goal.returns-in-Ok-clause-row
+returns-in-Ok-clause-row g c = grind arith
+
+pub returns-in-Ok-clause-totals : goal.returns-in-Ok-clause-totals
+returns-in-Ok-clause-totals g c = grind arith

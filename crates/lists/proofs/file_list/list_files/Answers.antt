@@ -1,4 +1,4 @@
-use Rattle.std.proofs.Common.{subst}
+use Rattle.std.proofs.Common.{subst, arith}
 use Rattle.sigtext.specs.Counts.{CountsErrors}
 use Rattle.manifests.specs.Lists.{by_writer}
 use Rattle.std.specs.FinMap.{entries}
@@ -18,3 +18,12 @@ returns-clause-writes g c = λ s means sound honest.
 
 pub returns-clause-count : goal.returns-clause-count
 returns-clause-count g c = subst (λ n. CountsErrors n c.send_files.new.out.faults (by_writer c.send_files.result)) c.in_ok-send_line.ensures.count.ok c.send_files.ensures.count
+
+pub returns-clause-fault : goal.returns-clause-fault
+returns-clause-fault g c = grind arith
+
+pub returns-clause-stays : goal.returns-clause-stays
+returns-clause-stays g c = grind arith
+
+pub returns-in_err-send_line-clause-fault : goal.returns-in_err-send_line-clause-fault
+returns-in_err-send_line-clause-fault g c = grind arith

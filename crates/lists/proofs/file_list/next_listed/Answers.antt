@@ -1,3 +1,4 @@
+use Rattle.std.proofs.Common.{arith}
 use Rattle.manifests.specs.Asking.{stays_err, stays_joined, stays_ok, stays_unasked}
 use Rattle.lists.proofs.Passed.{passed_answering, passed_stays}
 use Rattle.lists.proofs.file_list.next_listed.Goals as goal
@@ -46,3 +47,12 @@ returns-in-Ok-Some-clause-stays g c = stays_joined _ _ _ _ c.in_ok-place.ensures
 
 pub returns-in-Ok-Some-clause-fault : goal.returns-in-Ok-Some-clause-fault
 returns-in-Ok-Some-clause-fault g c = tt
+
+pub returns-in-Ok-Some-clause-next : goal.returns-in-Ok-Some-clause-next
+returns-in-Ok-Some-clause-next g c = grind arith
+
+pub returns-in-Ok-Some-clause-receipt : goal.returns-in-Ok-Some-clause-receipt
+returns-in-Ok-Some-clause-receipt g c = grind arith
+
+pub returns-in_default-clause-next : goal.returns-in_default-clause-next
+returns-in_default-clause-next g c = grind arith

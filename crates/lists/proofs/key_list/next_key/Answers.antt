@@ -1,4 +1,4 @@
-use Rattle.std.proofs.Common.{map, subst}
+use Rattle.std.proofs.Common.{map, subst, arith}
 use Rattle.lists.specs.Keys.{AreLimits}
 use Rattle.manifests.specs.Asking.{stays_err, stays_joined, stays_ok}
 use Rattle.lists.proofs.Passed.{passed_answering, passed_stays}
@@ -77,3 +77,12 @@ pub returns-clause-limits : goal.returns-clause-limits
 returns-clause-limits g c = λ s (means, sound, honest).
     let known = c.in-Ok-Some-key.ensures.rest.same s (c.in-Ok-Some.ensures.rest.same s means) in
     subst (λ id. AreLimits s id (map (λ b. b.items) c.in_ok-boxes.boxes.items)) c.deref-2.ensures.value (c.in_ok-boxes.ensures.value s (known, sound, honest))
+
+pub returns-clause-next : goal.returns-clause-next
+returns-clause-next g c = grind arith
+
+pub returns-clause-row : goal.returns-clause-row
+returns-clause-row g c = grind arith
+
+pub returns-in-Ok-None-clause-next : goal.returns-in-Ok-None-clause-next
+returns-in-Ok-None-clause-next g c = grind arith

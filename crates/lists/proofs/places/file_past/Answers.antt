@@ -1,4 +1,4 @@
-use Rattle.std.proofs.Common.{[], Some, None, subst}
+use Rattle.std.proofs.Common.{[], Some, None, subst, arith}
 use Rattle.sigtext.specs.Bytes.{bytes_cmp}
 use Rattle.rolls.specs.Next.{IsBox, IsFileIn, IsNext}
 use Rattle.manifests.specs.Asking.{stays_err, stays_joined, stays_ok, stays_unasked}
@@ -83,3 +83,6 @@ returns-clause-stays g c = c.boxes.invariant.stays
 
 pub returns-clause-fault : goal.returns-clause-fault
 returns-clause-fault g c = tt
+
+pub boxes-init : goal.boxes-init
+boxes-init g c = grind arith

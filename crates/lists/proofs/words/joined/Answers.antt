@@ -1,7 +1,8 @@
-use Rattle.std.proofs.Common.{rules, ◌≡◌, ◌∙◌, List, ℕ, [], ◌∷◌, ◌++◌, map, sym, ap, Vec}
+use Rattle.std.proofs.Common.{rules, ◌≡◌, ◌∙◌, List, ℕ, [], ◌∷◌, ◌++◌, map, sym, ap, Vec, arith}
 use Rattle.std.specs.List.{join_with_byte}
 use Rattle.std.specs.declared.alloc.Global.{Global}
 use Rattle.std.proofs.lemmas.List.{at_drop_all, append-nil}
+use Rattle.std.proofs.lemmas.Grind.{common_steps}
 use Rattle.sigtext.proofs.JoinedTexts.{joined_behind, joined_behind-nil, pieces_written}
 use Rattle.lists.proofs.Texts.{joined_at, joined_first}
 use Rattle.lists.proofs.words.joined.Goals as goal
@@ -25,3 +26,6 @@ returns c =
     let none = at_drop_all (λ (rest : List (Vec ℕ Global)). joined_behind (c.args.between ∷ []) c.args.between (map (λ t. t.items) rest)) c.in-Some.others.now c.others.other-index c.others-test.false
     ∙ joined_behind-nil (c.args.between ∷ []) c.args.between in
     sym (c.others.invariant ∙ ap (λ (t : List ℕ). c.others.text.items ++ t) none ∙ append-nil c.others.text.items)
+
+pub returns-in_default : goal.returns-in_default
+returns-in_default c = grind (arith, common_steps)

@@ -1,4 +1,4 @@
-use Rattle.std.proofs.Common.{◌≡◌, ◌∙◌, ◌∷◌, ◌++◌, [], Option, Some, None, true, false, map, sym, ap, subst, refl}
+use Rattle.std.proofs.Common.{◌≡◌, ◌∙◌, ◌∷◌, ◌++◌, [], Option, Some, None, true, false, map, sym, ap, subst, refl, arith}
 use Rattle.std.specs.Prelude.{option_map}
 use Rattle.std.proofs.lemmas.Result.{err_from_is_err_and}
 use Rattle.csv.specs.Machine.{next_record, Read as OneRecord}
@@ -103,3 +103,18 @@ returns-clause-order g c = c.answer_records.ensures.order
 
 pub returns-clause-count : goal.returns-clause-count
 returns-clause-count g c = subst (λ n. CountsErrors n c.answer_records.new.out.faults (by_writer c.answer_records.result)) c.in_ok-send_line.ensures.count.ok c.answer_records.ensures.count
+
+pub answer_records-requires-clause-sound : goal.answer_records-requires-clause-sound
+answer_records-requires-clause-sound g c = grind arith
+
+pub returns-in_err-send_line-clause-order : goal.returns-in_err-send_line-clause-order
+returns-in_err-send_line-clause-order g c = grind arith
+
+pub returns-in_err-send_line-clause-stays : goal.returns-in_err-send_line-clause-stays
+returns-in_err-send_line-clause-stays g c = grind arith
+
+pub returns-then-not-branch-clause-order : goal.returns-then-not-branch-clause-order
+returns-then-not-branch-clause-order g c = grind arith
+
+pub returns-then-not-is_record-clause-order : goal.returns-then-not-is_record-clause-order
+returns-then-not-is_record-clause-order g c = grind arith

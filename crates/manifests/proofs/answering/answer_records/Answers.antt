@@ -150,3 +150,51 @@ returns-clause-reads g c = record { err = tt; ok = c.records.invariant.sound }
 
 pub returns-clause-count : goal.returns-clause-count
 returns-clause-count g c = record { err = tt; ok = c.records.invariant.count }
+
+pub returns-clause-answers : goal.returns-clause-answers
+returns-clause-answers g c = grind arith
+
+pub returns-in_default-clause-head : goal.returns-in_default-clause-head
+returns-in_default-clause-head g c = grind arith
+
+pub returns-in_default-clause-order : goal.returns-in_default-clause-order
+returns-in_default-clause-order g c = grind arith
+
+pub returns-in_err-next_record-clause-head : goal.returns-in_err-next_record-clause-head
+returns-in_err-next_record-clause-head g c = grind arith
+
+pub returns-in_err-next_record-clause-order : goal.returns-in_err-next_record-clause-order
+returns-in_err-next_record-clause-order g c = grind arith
+
+pub returns-in_err-next_record-clause-stays : goal.returns-in_err-next_record-clause-stays
+returns-in_err-next_record-clause-stays g c = grind arith
+
+pub returns-in_err-send_text-clause-head : goal.returns-in_err-send_text-clause-head
+returns-in_err-send_text-clause-head g c = grind arith
+
+pub returns-in_err-send_text-clause-order : goal.returns-in_err-send_text-clause-order
+returns-in_err-send_text-clause-order g c = grind arith
+
+pub returns-in_err-text-clause-head : goal.returns-in_err-text-clause-head
+returns-in_err-text-clause-head g c = grind arith
+
+pub returns-in_err-text-clause-order : goal.returns-in_err-text-clause-order
+returns-in_err-text-clause-order g c = grind arith
+
+pub returns-then-not-branch-clause-answers : goal.returns-then-not-branch-clause-answers
+returns-then-not-branch-clause-answers g c = grind arith
+
+pub returns-then-not-branch-clause-count : goal.returns-then-not-branch-clause-count
+returns-then-not-branch-clause-count g c = grind arith
+
+pub returns-then-not-branch-clause-head : goal.returns-then-not-branch-clause-head
+returns-then-not-branch-clause-head g c = grind arith
+
+pub returns-then-not-branch-clause-order : goal.returns-then-not-branch-clause-order
+returns-then-not-branch-clause-order g c = grind arith
+
+pub returns-then-not-branch-clause-reads : goal.returns-then-not-branch-clause-reads
+returns-then-not-branch-clause-reads g c = grind arith
+
+pub returns-then-not-branch-clause-stays : goal.returns-then-not-branch-clause-stays
+returns-then-not-branch-clause-stays g c = grind arith

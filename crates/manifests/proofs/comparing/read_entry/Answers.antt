@@ -70,3 +70,9 @@ returns-then-number-eq0-clause-none c row =
     let said = row_number _ _ _ (c.if-not-read_fields.ensures.are refl) row in
     let same = one_number _ _ _ said.1 c.in_ok-number.ensures.some in
     omega (arith, same, said.2, c.if-number-eq0.true)
+
+pub returns-then-not-read_fields-clause-none : goal.returns-then-not-read_fields-clause-none
+returns-then-not-read_fields-clause-none c = grind arith
+
+pub slice_bounds-are_texts-end : goal.slice_bounds-are_texts-end
+slice_bounds-are_texts-end c = grind arith

@@ -1,4 +1,4 @@
-use Rattle.std.proofs.Common.{◌∙◌}
+use Rattle.std.proofs.Common.{◌∙◌, arith}
 use Rattle.std.proofs.lemmas.Result.{err_from_is_err_and}
 use Rattle.wire.proofs.Written.{sends_same}
 use Rattle.manifests.proofs.AnsweredLists.{sends_none}
@@ -11,3 +11,6 @@ returns-in_err-text-clause-sent g c =
 
 pub returns-clause-sent : goal.returns-clause-sent
 returns-clause-sent g c = sends_same (c.deref.ensures.value ∙ c.in_ok-text.ensures.line) c.send_text.ensures.sent
+
+pub returns-clause-fault : goal.returns-clause-fault
+returns-clause-fault g c = grind arith

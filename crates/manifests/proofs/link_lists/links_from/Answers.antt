@@ -1,4 +1,4 @@
-use Rattle.std.proofs.Common.{refl}
+use Rattle.std.proofs.Common.{refl, arith}
 use Rattle.manifests.proofs.AnsweredLists.{unanswered}
 use Rattle.manifests.specs.LinkLists.{links_head, written_links_head, IsLinkRow}
 use Rattle.manifests.proofs.link_lists.links_from.Goals as goal
@@ -13,3 +13,18 @@ returns-clause-answers g c =
 
 pub returns-clause-untouched : goal.returns-clause-untouched
 returns-clause-untouched g c = λ is. absurd (c.answer_list.ensures.order is)
+
+pub invariant_of-signer : goal.invariant_of-signer
+invariant_of-signer g c = grind arith
+
+pub returns-clause-count : goal.returns-clause-count
+returns-clause-count g c = grind arith
+
+pub returns-clause-order : goal.returns-clause-order
+returns-clause-order g c = grind arith
+
+pub returns-then-not-can_sign-clause-order : goal.returns-then-not-can_sign-clause-order
+returns-then-not-can_sign-clause-order g c = grind arith
+
+pub returns-then-not-can_sign-clause-untouched : goal.returns-then-not-can_sign-clause-untouched
+returns-then-not-can_sign-clause-untouched g c = grind arith

@@ -1,4 +1,5 @@
-use Rattle.std.proofs.Common.{◌≡◌, false, true, map, length, get_or, Bor, List, [], ℕ, refl}
+use Rattle.std.proofs.Common.{◌≡◌, false, true, map, length, get_or, Bor, List, [], ℕ, refl, arith}
+use Rattle.std.proofs.lemmas.Grind.{common_steps}
 use Rattle.links.proofs.ServedMethods.{served_method}
 use Rattle.links.proofs.SixLemmas.{none_of}
 use Rattle.links.proofs.Texts.{clash}
@@ -48,3 +49,6 @@ returns-clause-some c =
       is_expires = c.in_ok-expires.ensures.some;
       are = wish_texts texts d (method_text c.in_ok-method.method) long c.in_ok-method.ensures.some;
     }
+
+pub returns-then-eq-clause-none : goal.returns-then-eq-clause-none
+returns-then-eq-clause-none c = grind (arith, common_steps)

@@ -1,4 +1,4 @@
-use Rattle.std.proofs.Common.{[], ◌++◌, refl, subst}
+use Rattle.std.proofs.Common.{[], ◌++◌, refl, subst, arith}
 use Rattle.std.proofs.lemmas.Result.{err_from_is_err_and}
 use Rattle.boxes.specs.Rows.{numbered}
 use Rattle.wire.proofs.Written.{sends_both}
@@ -50,3 +50,15 @@ returns-clause-stays g c = stays_joined _ _ _ _ (stays_ok _ _ _ c.in-Ok.ensures.
 
 pub returns-clause-count : goal.returns-clause-count
 returns-clause-count g c = subst (λ n. CountsErrors n c.send_receipts.new.out.faults (by_writer c.send_receipts.result)) c.in_ok-send_line.ensures.count.ok c.send_receipts.ensures.count
+
+pub returns-clause-fault : goal.returns-clause-fault
+returns-clause-fault g c = grind arith
+
+pub returns-clause-staged : goal.returns-clause-staged
+returns-clause-staged g c = grind arith
+
+pub returns-in-Err-clause-staged : goal.returns-in-Err-clause-staged
+returns-in-Err-clause-staged g c = grind arith
+
+pub returns-in_err-send_line-clause-fault : goal.returns-in_err-send_line-clause-fault
+returns-in_err-send_line-clause-fault g c = grind arith

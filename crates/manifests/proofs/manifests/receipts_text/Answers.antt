@@ -1,4 +1,5 @@
-use Rattle.std.proofs.Common.{◌≡◌, ◌∙◌, ◌++◌, ◌∷◌, [], ap, map, sym, subst, take}
+use Rattle.std.proofs.Common.{◌≡◌, ◌∙◌, ◌++◌, ◌∷◌, [], ap, map, sym, subst, take, arith}
+use Rattle.std.proofs.lemmas.Grind.{common_steps}
 use Rattle.boxes.specs.Rows.{numbered_receipt}
 use Rattle.manifests.specs.Lists.{AreLines}
 use Rattle.manifests.specs.Manifests.{HasMoment, IsReceiptLine}
@@ -29,3 +30,6 @@ receipts-preserved c =
           subst (λ xs. AreLines IsReceiptLine xs (c.write_receipt.new.writer.wtr.inner.items ++ c.write_receipt.new.writer.wtr.buf)) (sym more)
           (subst (AreLines IsReceiptLine (map numbered_receipt (take at rows) ++ _ ∷ [])) (sym written) lines);
     }
+
+pub returns-clause-lines : goal.returns-clause-lines
+returns-clause-lines c = grind (arith, common_steps)

@@ -103,3 +103,15 @@ portions-preserved g c =
 
 pub returns-in-Err-clause-stays : goal.returns-in-Err-clause-stays
 returns-in-Err-clause-stays g c = stays_joined _ _ _ _ c.portions.invariant.stays (stays_err _ _ _ c.in-Err.ensures.rest)
+
+pub returns-in-Err-clause-staged : goal.returns-in-Err-clause-staged
+returns-in-Err-clause-staged g c = grind arith
+
+pub returns-in_err-send_text-clause-fault : goal.returns-in_err-send_text-clause-fault
+returns-in_err-send_text-clause-fault g c = grind arith
+
+pub returns-in_err-send_text-clause-staged : goal.returns-in_err-send_text-clause-staged
+returns-in_err-send_text-clause-staged g c = grind arith
+
+pub returns-in_err-text-clause-staged : goal.returns-in_err-text-clause-staged
+returns-in_err-text-clause-staged g c = grind arith

@@ -1,5 +1,5 @@
 use borrow.Author.Rules.{scaled_Fits}
-use Rattle.std.proofs.Common.{refl}
+use Rattle.std.proofs.Common.{refl, arith}
 use Rattle.seats.proofs.Changing.{by_done, by_kept, done_there, done_to_ended, done_to_none}
 use Rattle.seats.proofs.slots.make_room_in_slot.Goals as goal
 
@@ -26,3 +26,6 @@ returns-in_default-2-clause-changes g c = by_kept _ _ c.args.slots.now c.args.in
 
 pub offset_bounds-slots-index : goal.offset_bounds-slots-index
 offset_bounds-slots-index g c = search scaled_Fits
+
+pub bounds-slots-index : goal.bounds-slots-index
+bounds-slots-index g c = grind arith

@@ -1,5 +1,5 @@
 use borrow.Author.Rules.{scaled_Fits}
-use Rattle.std.proofs.Common.{refl}
+use Rattle.std.proofs.Common.{refl, arith}
 use Rattle.seats.proofs.Changing.{by_kept, by_sent, sent_there, sent_to_none}
 use Rattle.seats.proofs.slots.send_slot.Goals as goal
 
@@ -19,3 +19,6 @@ returns-in-None-clause-changes g c = by_kept _ _ c.args.slots.now c.args.index c
 
 pub offset_bounds-slots-index : goal.offset_bounds-slots-index
 offset_bounds-slots-index g c = search scaled_Fits
+
+pub bounds-slots-index : goal.bounds-slots-index
+bounds-slots-index g c = grind arith

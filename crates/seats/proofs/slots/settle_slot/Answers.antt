@@ -1,5 +1,5 @@
 use borrow.Author.Rules.{scaled_Fits}
-use Rattle.std.proofs.Common.{refl}
+use Rattle.std.proofs.Common.{refl, arith}
 use Rattle.seats.proofs.Changing.{by_done, done_there, done_to_ended, done_to_none}
 use Rattle.seats.proofs.slots.settle_slot.Goals as goal
 use Rattle.seats.proofs.slots.settle_slot.Goals.{in_default-via-in-Some+else-is_none, in_default-via-in_default}
@@ -25,3 +25,6 @@ returns-in_default-clause-changes g c = by_done _ _ _ _ _ _ c.args.index c.requi
 
 pub offset_bounds-slots-index : goal.offset_bounds-slots-index
 offset_bounds-slots-index g c = search scaled_Fits
+
+pub bounds-slots-index : goal.bounds-slots-index
+bounds-slots-index g c = grind arith

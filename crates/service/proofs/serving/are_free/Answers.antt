@@ -24,3 +24,9 @@ returns-clause-told g c _ p =
     (λ (lt : p < c.slots.index). c.slots.invariant p lt)
     (λ (ge : c.slots.index ≤ p). get_or_past c.args.slots.now p None (omega (arith, c.slots-test.false, ge)))
     (cases_lt p c.slots.index)
+
+pub bounds-slots-index : goal.bounds-slots-index
+bounds-slots-index g c = grind arith
+
+pub offset_bounds-slots-index : goal.offset_bounds-slots-index
+offset_bounds-slots-index g c = grind arith

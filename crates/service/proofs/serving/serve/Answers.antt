@@ -1,4 +1,4 @@
-use Rattle.std.proofs.Common.{◌≡◌, ◌∙◌, None, drop, length, subst, sym}
+use Rattle.std.proofs.Common.{◌≡◌, ◌∙◌, None, drop, length, subst, sym, arith}
 use Rattle.seats.specs.Crowds.{slot_at}
 use Rattle.service.proofs.Returned.{serves_so, take_first}
 use Rattle.service.proofs.serving.serve.Goals as goal
@@ -11,3 +11,12 @@ returns-clause-serves g c =
 
 pub serve_through-listener-requires-clause-free : goal.serve_through-listener-requires-clause-free
 serve_through-listener-requires-clause-free g c = λ p. subst (λ l. slot_at l p ≡ None) (sym c.as_mut_slice.ensures.value) (c.in-Ok.ensures.free p)
+
+pub returns-clause-never_less : goal.returns-clause-never_less
+returns-clause-never_less g c = grind arith
+
+pub returns-in-Err-clause-nothing : goal.returns-in-Err-clause-nothing
+returns-in-Err-clause-nothing g c = grind arith
+
+pub returns-in-Err-clause-unstaged : goal.returns-in-Err-clause-unstaged
+returns-in-Err-clause-unstaged g c = grind arith

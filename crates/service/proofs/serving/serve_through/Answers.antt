@@ -46,3 +46,12 @@ returns-clause-serves g c =
       gave = subst (λ n. HasGiven n c.serve_crowd-faulty.new.crowd.turns all.4) (all.2.counted) all.5;
       serves = all.7;
     }
+
+pub returns-clause-honest : goal.returns-clause-honest
+returns-clause-honest g c = grind arith
+
+pub returns-clause-never_less : goal.returns-clause-never_less
+returns-clause-never_less g c = grind arith
+
+pub serve_crowd-faulty-requires : goal.serve_crowd-faulty-requires
+serve_crowd-faulty-requires g c = grind arith

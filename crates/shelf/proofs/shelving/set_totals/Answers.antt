@@ -1,4 +1,4 @@
-use Rattle.std.proofs.Common.{◌≡◌, ◌∙◌, Some, ap, subst}
+use Rattle.std.proofs.Common.{◌≡◌, ◌∙◌, Some, ap, subst, arith}
 use Rattle.std.specs.Prelude.{is_some}
 use Rattle.sigtext.specs.Bytes.{bytes_cmp}
 use Rattle.boxes.proofs.Lookups.{bytes_total}
@@ -17,3 +17,6 @@ returns-in-Some c b there =
     let after = c.get_mut.follows.lender with in
     subst (λ (x : ShelvedBox). Sets bytes_cmp bytes_of c.args.name.now (Some (record x { totals = c.args.totals })) c.args.boxes.now.entries after.entries) is
     (sets_of bytes_cmp bytes_of bytes_total c.args.boxes.now after c.args.name.now (Some with) ((c.get_mut.follows.holds with).3 (ap is_some there)))
+
+pub returns-in_default : goal.returns-in_default
+returns-in_default c = grind arith

@@ -1,4 +1,4 @@
-use Rattle.std.proofs.Common.{refl}
+use Rattle.std.proofs.Common.{refl, arith}
 use Rattle.std.proofs.lemmas.Result.{on_ok_weaker, on_err_weaker}
 use Rattle.sigtext.proofs.CanonicalTexts.{text_of, text_of-is}
 use Rattle.sigtext.proofs.Sent.{sent_nothing, sent_more, sent_last, sent_part, sent_last_part, sent_none, at_error}
@@ -70,3 +70,15 @@ returns-clause-ok g c =
     let query_end = sent_more joins query refl c.in_ok-take.ensures.ok in
     let headers = sent_more joins query_end refl (rw c.as_slice-fields.ensures.value at c.in_ok-send_headers.ensures.ok) in
     on_ok_weaker c.send_names.result (λ h signed are. (text_of c.args.parts.now, text_of-is c.args.parts.now signed are, sent_last joins headers h)) (rw c.as_slice-fields.ensures.value at c.send_names.ensures.ok)
+
+pub returns-in_err-send_headers-clause-sure : goal.returns-in_err-send_headers-clause-sure
+returns-in_err-send_headers-clause-sure g c = grind arith
+
+pub returns-in_err-send_path-clause-sure : goal.returns-in_err-send_path-clause-sure
+returns-in_err-send_path-clause-sure g c = grind arith
+
+pub returns-in_err-send_query-clause-sure : goal.returns-in_err-send_query-clause-sure
+returns-in_err-send_query-clause-sure g c = grind arith
+
+pub returns-in_err-take-clause-sure : goal.returns-in_err-take-clause-sure
+returns-in_err-take-clause-sure g c = grind arith

@@ -1,4 +1,4 @@
-use Rattle.std.proofs.Common.{◌≡◌, ℕ, ◌+◌, ◌<◌, List, [], ◌∷◌, ◌++◌, length, get_or, drop, map, refl, ap, ◌∙◌, append_assoc, codes}
+use Rattle.std.proofs.Common.{◌≡◌, ℕ, ◌+◌, ◌<◌, List, [], ◌∷◌, ◌++◌, length, get_or, drop, map, refl, ap, ◌∙◌, append_assoc, codes, arith}
 use Rattle.std.proofs.lemmas.List.{at_drop_more, at_drop_all}
 use Rattle.std.proofs.lemmas.Result.{on_ok_weaker, on_err_weaker}
 use Rattle.sigtext.specs.declared.field.Field.{Field}
@@ -56,3 +56,6 @@ returns-clause-ok g c =
     let none = at_drop_all (λ (rest : List Field). joined_behind separator 59 (names rest)) fields c.loop-field.field-index c.loop-field-test.false ∙ joined_behind-nil separator 59 in
     let ends = sent_step c.loop-field.invariant (ap (λ (t : List ℕ). t ++ last) none) in
     on_ok_weaker c.take-2.result (λ h. sent_last g.met.S.ByteSink.joins ends h) c.take-2.ensures.ok
+
+pub returns-in_err-send_lower_case-clause-sure : goal.returns-in_err-send_lower_case-clause-sure
+returns-in_err-send_lower_case-clause-sure g c = grind arith

@@ -1,4 +1,4 @@
-use Rattle.std.proofs.Common.{◌≡◌, ℕ, ◌+◌, ◌<◌, Bool, true, false, not, cond, List, [], ◌∷◌, ◌++◌, length, get_or, drop, map, refl, sym, ap, ◌∙◌, codes}
+use Rattle.std.proofs.Common.{◌≡◌, ℕ, ◌+◌, ◌<◌, Bool, true, false, not, cond, List, [], ◌∷◌, ◌++◌, length, get_or, drop, map, refl, sym, ap, ◌∙◌, codes, arith}
 use Rattle.std.proofs.lemmas.List.{at_drop_more, at_drop_all}
 use Rattle.percent_encoding.specs.Percent.{percent_decode}
 use Rattle.sigtext.specs.declared.target.RawParam.{RawParam}
@@ -66,3 +66,6 @@ returns-clause-ok g c =
     sent_all c.loop-raw.invariant
     (at_drop_all (λ (rest : List RawParam). joined_behind c.loop-raw.separator.now 38 (texts rest)) c.args.items.now c.loop-raw.raw-index c.loop-raw-test.false
     ∙ joined_behind-nil c.loop-raw.separator.now 38)
+
+pub returns-in_err-send_param-clause-sure : goal.returns-in_err-send_param-clause-sure
+returns-in_err-send_param-clause-sure g c = grind arith

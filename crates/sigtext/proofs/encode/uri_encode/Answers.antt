@@ -1,6 +1,7 @@
 use Rattle.std.proofs.Common.{◌≡◌, ℕ, ◌<◌, ◌≤◌, List, ◌++◌, length, take, ap, sym, ◌∙◌, append_assoc, arith, length-append}
 use Rattle.std.proofs.lemmas.List.Elements.{All-from_get_or}
 use Rattle.std.proofs.lemmas.List.{append-nil, take-append-le}
+use Rattle.std.proofs.lemmas.Grind.{common_steps}
 use Rattle.percent_encoding.specs.Iter.{encoded_text}
 use Rattle.sigtext.specs.UriEncode.{uri_encoded}
 use Rattle.sigtext.proofs.Encoding.{percent_encode-is}
@@ -46,3 +47,9 @@ returns-in-Err-clause-full c =
     let text : encoded_text c.into_iter-piece-iterator.result ≡ uri_encoded c.args.slash c.args.bytes.now = ap encoded_text c.into_iter-piece-iterator.ensures.into_iter_gives ∙ c.percent_encode-text.ensures.text ∙ whole in
     let lengths = simp length-append at (ap length (rw c.in-Some.ensures.steps at c.loop-piece.invariant.text)) in
     rw (← text) (omega (arith, lengths, c.in-Err.ensures.full, c.loop-piece.out.ok.0, c.args.out.now.ok.0))
+
+pub loop-piece-init : goal.loop-piece-init
+loop-piece-init c = grind (arith, common_steps)
+
+pub returns-in-Err-clause-err : goal.returns-in-Err-clause-err
+returns-in-Err-clause-err c = grind arith

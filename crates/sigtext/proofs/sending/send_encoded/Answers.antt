@@ -23,3 +23,6 @@ returns-in_err-take-clause-err g c =
 
 pub returns-clause-ok : goal.returns-clause-ok
 returns-clause-ok g c = sent_all c.loop-piece.invariant c.in-None.ensures.steps
+
+pub returns-in_err-take-clause-sure : goal.returns-in_err-take-clause-sure
+returns-in_err-take-clause-sure g c = grind arith

@@ -1,4 +1,4 @@
-use Rattle.std.proofs.Common.{[], ◌∷◌, sym, ap, ◌∙◌}
+use Rattle.std.proofs.Common.{[], ◌∷◌, sym, ap, ◌∙◌, arith}
 use Rattle.percent_encoding.specs.Iter.{decoded_bytes}
 use Rattle.sigtext.specs.UriEncode.{uri_encoded}
 use Rattle.sigtext.proofs.PlainTexts.{encoded_append, encoded_nothing}
@@ -22,3 +22,12 @@ returns-in_err-send_encoded-clause-err g c =
 
 pub returns-clause-ok : goal.returns-clause-ok
 returns-clause-ok g c = sent_all c.loop-byte.invariant (ap (uri_encoded c.args.slash) c.in-None.ensures.steps.0 ∙ encoded_nothing c.args.slash)
+
+pub returns-in_err-send_encoded-clause-sure : goal.returns-in_err-send_encoded-clause-sure
+returns-in_err-send_encoded-clause-sure g c = grind arith
+
+pub returns-then-has_no_escape-clause-err : goal.returns-then-has_no_escape-clause-err
+returns-then-has_no_escape-clause-err g c = grind arith
+
+pub returns-then-has_no_escape-clause-ok : goal.returns-then-has_no_escape-clause-ok
+returns-then-has_no_escape-clause-ok g c = grind arith

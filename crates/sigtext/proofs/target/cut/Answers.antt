@@ -2,6 +2,7 @@ use Rattle.std.proofs.Common.{◌≡◌, ◌≢◌, ℕ, ◌+◌, ◌-◌, ◌<�
 use Rattle.std.proofs.lemmas.Bool.{eqb-true, eq-eqb}
 use Rattle.std.proofs.lemmas.List.{at_drop_more, get_or-take, length-take, take-append-drop, take_all}
 use Rattle.std.proofs.lemmas.List.Elements.{All-from_get_or}
+use Rattle.std.proofs.lemmas.Grind.{common_steps}
 use Rattle.memchr.specs.Find.{NoneBefore, Passes, is_byte}
 use Rattle.sigtext.proofs.target.cut.Goals as goal
 
@@ -20,3 +21,6 @@ cut_first b text i first is =
 
 pub returns : goal.returns
 returns c = let found = c.in_ok-at.ensures in cut_first c.args.byte c.args.text.now c.in_ok-at.at found.0 found.1
+
+pub slice_bounds-result-end : goal.slice_bounds-result-end
+slice_bounds-result-end c = grind (arith, common_steps)

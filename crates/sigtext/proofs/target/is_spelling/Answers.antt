@@ -1,6 +1,7 @@
 use Rattle.std.proofs.Common.{ℕ, ◌+◌, ◌-◌, List, length, take, drop, subst, sym, arith, length-drop}
 use Rattle.std.specs.Prelude.{◌↔◌}
 use Rattle.std.proofs.lemmas.List.{drop-drop, take_all}
+use Rattle.std.proofs.lemmas.Grind.{common_steps}
 use Rattle.sigtext.specs.Targets.{SpellsSome}
 use Rattle.sigtext.proofs.target.is_spelling.Goals as goal
 
@@ -22,3 +23,9 @@ loop-at-preserved c =
       within = omega (arith, c.in-Some.ensures.within.1, length-drop at text, take_all (length text - at) (drop at text), c.loop-at.invariant.within);
       rest = one_more c.args.barred.now text at c.in-Some.n c.in-Some.ensures.some c.loop-at.invariant.rest;
     }
+
+pub returns : goal.returns
+returns c = grind (arith, common_steps)
+
+pub returns-in-None : goal.returns-in-None
+returns-in-None c = grind (arith, common_steps)

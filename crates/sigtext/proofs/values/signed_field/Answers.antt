@@ -1,4 +1,4 @@
-use Rattle.std.proofs.Common.{map}
+use Rattle.std.proofs.Common.{map, arith}
 use Rattle.sigtext.specs.Fields.{header_of}
 use Rattle.sigtext.specs.SignedHeaders.{lower_case}
 use Rattle.sigtext.proofs.ValuesNamed.{has_the_name}
@@ -10,3 +10,12 @@ returns-clause-some c = (
   (header_of c.in_ok-field.field, c.in_ok-field.ensures.some, c.trim_blanks-value.ensures),
   c.is_fit_value.ensures.0 c.if-not-is_fit_value.false,
 )
+
+pub returns-in_err-field-clause-none : goal.returns-in_err-field-clause-none
+returns-in_err-field-clause-none c = grind arith
+
+pub returns-in_err-field-clause-some : goal.returns-in_err-field-clause-some
+returns-in_err-field-clause-some c = grind arith
+
+pub returns-then-not-is_fit_value-clause-none : goal.returns-then-not-is_fit_value-clause-none
+returns-then-not-is_fit_value-clause-none c = grind arith

@@ -29,3 +29,15 @@ pub returns-clause-ok : goal.returns-clause-ok
 returns-clause-ok c =
     let end = YieldsList-end (YieldsList-from_slice_split _ (λ b. eqb b 59) c.args.names.now (search rules) (search rules) (search rules) (λ x r q k. search (rules, tests))) c.loop-name.yielded _ c.loop-name.yielded_by _ c.next.new.self c.in-None.is c.next.ensures.steps in
     all_came (map header_of c.args.fields.now) (slice_split (λ b. eqb b 59) c.args.names.now) (length c.loop-name.yielded) _ (omega (arith, end.1)) c.loop-name.invariant.sofar
+
+pub count-requires-clause-fits : goal.count-requires-clause-fits
+count-requires-clause-fits c = grind arith
+
+pub returns-in_default-signed_field-clause-ok : goal.returns-in_default-signed_field-clause-ok
+returns-in_default-signed_field-clause-ok c = grind arith
+
+pub returns-then-is_err-clause-err : goal.returns-then-is_err-clause-err
+returns-then-is_err-clause-err c = grind arith
+
+pub returns-then-is_err-clause-ok : goal.returns-then-is_err-clause-ok
+returns-then-is_err-clause-ok c = grind arith

@@ -1,6 +1,6 @@
 use Rattle.std.proofs.Common.{◌≡◌, ◌<◌, ◌≤◌, ◌+◌, ◌&&◌, eqb, ℕ, Bool, true, false, List, length, get_or, take, refl, sym, ap, ◌∙◌, subst, ⊎_elim, arith}
 use Rattle.std.specs.List.{list_all}
-use Rattle.std.proofs.lemmas.Bool.{eqb-true}
+use Rattle.std.proofs.lemmas.Bool.{eqb-true, false≢true}
 use Rattle.std.proofs.lemmas.List.{take_all}
 use Rattle.std.proofs.lemmas.List.Folds.{list_all_more, list_all_at}
 use Rattle.sigtext.proofs.Pieces.{some_bytes}
@@ -42,10 +42,10 @@ returns-then-not-passes g c = λ test post.
     let text = c.args.text.now in
     let i = c.loop-byte.byte-index in
     let fails = post (get_or text i 0) false (omega (arith, c.type_inv.text i)) c.if-not-passes.ensures in
-    (λ t. absurd cc, λ h. sym (list_all_at test text i 0 c.loop-byte-test.true (sym fails)) ∙ h.each)
+    (λ t. absurd (false≢true t), λ h. sym (list_all_at test text i 0 c.loop-byte-test.true (sym fails)) ∙ h.each)
 
 pub returns-then-is_empty : goal.returns-then-is_empty
 returns-then-is_empty g c = λ test post. (
-  λ t. absurd cc,
+  λ t. absurd (false≢true t),
   λ h. absurd (⊎_elim (λ (e : c.is_empty.result ≡ true). none_or_some c.args.text.now (sym e ∙ c.is_empty.ensures) h.some) (λ long. omega (arith, long.1, h.short)) c.then-is_empty.either),
 )

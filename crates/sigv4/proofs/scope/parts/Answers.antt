@@ -1,4 +1,4 @@
-use Rattle.std.proofs.Common.{Some, None, codes, eqb}
+use Rattle.std.proofs.Common.{Some, None, codes, eqb, arith}
 use Rattle.std.proofs.lemmas.Bool.Decides.{Decides-eqb}
 use Rattle.std.proofs.lemmas.Slice.Eq.{strip_suffix_is}
 use Rattle.sigv4.proofs.Credentials.{joins, no_end, no_key_id, no_date}
@@ -31,3 +31,12 @@ returns-clause-found c =
     let whole = joins c.args.credential.now c.in_ok-front.front.now c.in_ok-key_id.rest.now c.in_ok-key_id.key_id.now
     (record { date = c.in_ok-date.date.now; region = c.in_ok-date.region.now }) ends cut.0 cut_again.0 in
     (whole, cut.1, cut_again.1)
+
+pub returns-in_err-date-clause-found : goal.returns-in_err-date-clause-found
+returns-in_err-date-clause-found c = grind arith
+
+pub returns-in_err-front-clause-found : goal.returns-in_err-front-clause-found
+returns-in_err-front-clause-found c = grind arith
+
+pub returns-in_err-key_id-clause-found : goal.returns-in_err-key_id-clause-found
+returns-in_err-key_id-clause-found c = grind arith

@@ -1,4 +1,4 @@
-use Rattle.std.proofs.Common.{◌≡◌, ℕ, List, ◌∷◌, [], ◌++◌, codes, append_assoc, ap, ◌∙◌}
+use Rattle.std.proofs.Common.{◌≡◌, ℕ, List, ◌∷◌, [], ◌++◌, codes, append_assoc, ap, ◌∙◌, arith}
 use Rattle.sha2.specs.Sha256.{sha256}
 use Rattle.hex.specs.Hex.{encode_lower}
 use Rattle.sigv4.specs.Hmac.{hmac}
@@ -31,3 +31,6 @@ returns c secret keyed signed are =
           let sent = joined c.text.result scope c.hex_digits-digest.result canonical digest ∙ ap (λ (t : List ℕ). string_to_sign t scope canonical) same in
           c.hex_digits.ensures ∙ ap encode_lower (c.finish.ensures _ _ fed ∙ ap (hmac (signing_key secret scope)) sent),
     )
+
+pub slice_bounds-update-end-6 : goal.slice_bounds-update-end-6
+slice_bounds-update-end-6 c = grind arith

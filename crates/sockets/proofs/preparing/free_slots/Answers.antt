@@ -9,3 +9,6 @@ slots-preserved g c = (
   λ p. subst (λ l. slot_at l p ≡ None) (sym c.in_ok-push.ensures.items) (free_more c.slots.slots.items c.slots.invariant.0 p),
   omega (arith, ap length c.in_ok-push.ensures.items, length-append c.slots.slots.items (None ∷ []), c.slots.invariant.1),
 )
+
+pub returns-clause-room : goal.returns-clause-room
+returns-clause-room g c = grind arith

@@ -12,3 +12,15 @@ returns-in-Some g c is =
       get_or_default c.args.slots.now c.args.index None c.index-slots-index.result within ∙ (sym c.index-slots-index.is ∙ c.in-Some.is),
       sym c.end.ensures ∙ none_of c.end.result (c.is_none.ensures ∙ ap not is),
     )
+
+pub bounds-slots-index : goal.bounds-slots-index
+bounds-slots-index g c = grind arith
+
+pub offset_bounds-slots-index : goal.offset_bounds-slots-index
+offset_bounds-slots-index g c = grind arith
+
+pub returns-in-None : goal.returns-in-None
+returns-in-None g c = grind arith
+
+pub returns-then-index-slots : goal.returns-then-index-slots
+returns-then-index-slots g c = grind arith

@@ -115,3 +115,24 @@ returns-then-len-min-clause-same g c v ours has inside clean =
 
 pub returns-clause-same : goal.returns-clause-same
 returns-clause-same g c v ours has inside clean = c.loop-tx.invariant.1.same v (record { version = ours; schema = has; inside = inside }) clean
+
+pub loop-tx-smaller : goal.loop-tx-smaller
+loop-tx-smaller g c = grind arith
+
+pub overflow_sub-rest : goal.overflow_sub-rest
+overflow_sub-rest g c = grind arith
+
+pub returns-clause-read : goal.returns-clause-read
+returns-clause-read g c = grind arith
+
+pub returns-in-None-clause-read : goal.returns-in-None-clause-read
+returns-in-None-clause-read g c = grind arith
+
+pub returns-in-None-clause-same : goal.returns-in-None-clause-same
+returns-in-None-clause-same g c = grind arith
+
+pub returns-in_err-bytes-clause-read : goal.returns-in_err-bytes-clause-read
+returns-in_err-bytes-clause-read g c = grind arith
+
+pub returns-in_err-bytes-clause-same : goal.returns-in_err-bytes-clause-same
+returns-in_err-bytes-clause-same g c = grind arith

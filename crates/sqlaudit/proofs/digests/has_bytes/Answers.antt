@@ -1,4 +1,4 @@
-use Rattle.std.proofs.Common.{◌≡◌, ◌<◌, IsTrue, pos, rules, subst}
+use Rattle.std.proofs.Common.{◌≡◌, ◌<◌, IsTrue, pos, rules, subst, arith}
 use Rattle.std.specs.Prelude.{MatchBool}
 use Rattle.std.proofs.lemmas.Result.{IfOk-weaker}
 use Rattle.sigtext.specs.Bytes.{AreBytes}
@@ -92,3 +92,21 @@ returns-clause-same g c = c.in_ok-bytes.ensures.same
 
 pub returns-clause-rest : goal.returns-clause-rest
 returns-clause-rest g c = succeeded _ c.in_ok-bytes.ensures.rest
+
+pub find_bytes-requires-text-in_box : goal.find_bytes-requires-text-in_box
+find_bytes-requires-text-in_box g c = grind arith
+
+pub find_bytes-requires-text-name : goal.find_bytes-requires-text-name
+find_bytes-requires-text-name g c = grind arith
+
+pub is_bare-requires-text-in_box : goal.is_bare-requires-text-in_box
+is_bare-requires-text-in_box g c = grind arith
+
+pub is_bare-requires-text-name : goal.is_bare-requires-text-name
+is_bare-requires-text-name g c = grind arith
+
+pub returns-in_default-try_from-clause-read : goal.returns-in_default-try_from-clause-read
+returns-in_default-try_from-clause-read g c = grind arith
+
+pub returns-in_default-try_from-clause-same : goal.returns-in_default-try_from-clause-same
+returns-in_default-try_from-clause-same g c = grind arith

@@ -1,4 +1,4 @@
-use Rattle.std.proofs.Common.{refl, sym, subst, ◌∙◌}
+use Rattle.std.proofs.Common.{refl, sym, subst, ◌∙◌, arith}
 use Rattle.std.specs.Prelude.{MatchBool, Contains}
 use Rattle.std.proofs.lemmas.List.{take_all}
 use Rattle.sqlite.specs.Held.{state}
@@ -63,3 +63,9 @@ returns-then-not-branch-clause-rest g c =
 
 pub returns-clause-rest : goal.returns-clause-rest
 returns-clause-rest g c = looked_goes c.loop-file.invariant.0 c.loop-file.invariant.1 _
+
+pub returns-clause-same : goal.returns-clause-same
+returns-clause-same g c = grind arith
+
+pub returns-then-not-branch-clause-same : goal.returns-then-not-branch-clause-same
+returns-then-not-branch-clause-same g c = grind arith

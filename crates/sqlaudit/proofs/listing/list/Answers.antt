@@ -1,3 +1,4 @@
+use Rattle.std.proofs.Common.{arith}
 use Rattle.sqltables.proofs.Onward.{failed, followed}
 use Rattle.sqlaudit.proofs.listing.list.Goals as goal
 
@@ -9,3 +10,9 @@ returns-in_err-numbers_of-clause-rest g c = failed c.from_residual-in_err-number
 
 pub returns-clause-rest : goal.returns-clause-rest
 returns-clause-rest g c = followed c.lines_of.result c.in_ok-rows.ensures.rest
+
+pub returns-clause-read : goal.returns-clause-read
+returns-clause-read g c = grind arith
+
+pub returns-in_err-rows-clause-read : goal.returns-in_err-rows-clause-read
+returns-in_err-rows-clause-read g c = grind arith

@@ -1,4 +1,4 @@
-use Rattle.std.proofs.Common.{◌≡◌, ◌∙◌, IsTrue, true, false, refl, sym, subst}
+use Rattle.std.proofs.Common.{◌≡◌, ◌∙◌, IsTrue, true, false, refl, sym, subst, arith}
 use Rattle.std.proofs.lemmas.Bool.{false≢true}
 use Rattle.std.specs.Prelude.{Contains, MatchBool, MatchOption}
 use Rattle.sqlite.specs.Held.{state}
@@ -132,3 +132,9 @@ returns-then-not-have_totals-clause-rest g c = succeeded _ c.in_ok-filed.ensures
 
 pub returns-clause-rest : goal.returns-clause-rest
 returns-clause-rest g c = succeeded _ c.in_ok-filed.ensures.rest
+
+pub returns-in_default-clause-found : goal.returns-in_default-clause-found
+returns-in_default-clause-found g c = grind arith
+
+pub returns-then-not-are_rising-clause-found : goal.returns-then-not-are_rising-clause-found
+returns-then-not-are_rising-clause-found g c = grind arith

@@ -95,3 +95,9 @@ returns-then-ne-clause-rest g c = succeeded _ c.in_ok-office.ensures.rest
 
 pub returns-clause-rest : goal.returns-clause-rest
 returns-clause-rest g c = and_then (λ began. began) (λ running. (running, running)) c.in_ok-office.ensures.rest c.look_at_all.ensures.rest
+
+pub returns-clause-whole : goal.returns-clause-whole
+returns-clause-whole g c = grind arith
+
+pub returns-then-line-number-clause-whole : goal.returns-then-line-number-clause-whole
+returns-then-line-number-clause-whole g c = grind arith

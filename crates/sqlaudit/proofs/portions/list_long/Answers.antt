@@ -48,3 +48,12 @@ returns-in_err-numbers-clause-rest g c = failed c.from_residual.result c.list_nu
 
 pub returns-clause-rest : goal.returns-clause-rest
 returns-clause-rest g c = and_then (λ began. began) (λ running. (running, running)) c.in_ok-numbers.ensures.rest c.list_portions.ensures.rest
+
+pub returns-in_err-numbers-clause-read : goal.returns-in_err-numbers-clause-read
+returns-in_err-numbers-clause-read g c = grind arith
+
+pub returns-in_err-numbers-clause-rowids : goal.returns-in_err-numbers-clause-rowids
+returns-in_err-numbers-clause-rowids g c = grind arith
+
+pub returns-in_err-numbers-clause-same : goal.returns-in_err-numbers-clause-same
+returns-in_err-numbers-clause-same g c = grind arith

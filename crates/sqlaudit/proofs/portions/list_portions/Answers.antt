@@ -1,4 +1,4 @@
-use Rattle.std.proofs.Common.{◌≡◌, ◌+◌, ◌++◌, ◌-◌, ◌≤◌, pos, get_or, to_z, of_z, w64, length, rules, refl, sym, subst, ◌∙◌}
+use Rattle.std.proofs.Common.{◌≡◌, ◌+◌, ◌++◌, ◌-◌, ◌≤◌, pos, get_or, to_z, of_z, w64, length, rules, refl, sym, subst, ◌∙◌, arith}
 use Rattle.sqlite.specs.Held.{state}
 use Rattle.sqlaudit.proofs.PortionRows.{Opens, Portioned, ReadsOn, none_read, read_on, all_read}
 use Rattle.sqltables.proofs.Onward.{and_then, failed, gave_up}
@@ -59,3 +59,33 @@ returns-in_err-append-clause-rest g c =
 
 pub returns-clause-rest : goal.returns-clause-rest
 returns-clause-rest g c = portioned_goes c.loop-at.invariant.0 c.loop-at.invariant.1 _
+
+pub bounds-numbers-at : goal.bounds-numbers-at
+bounds-numbers-at g c = grind arith
+
+pub bounds-numbers-end : goal.bounds-numbers-end
+bounds-numbers-end g c = grind arith
+
+pub loop-at-smaller : goal.loop-at-smaller
+loop-at-smaller g c = grind arith
+
+pub offset_bounds-numbers-at : goal.offset_bounds-numbers-at
+offset_bounds-numbers-at g c = grind arith
+
+pub offset_bounds-numbers-end : goal.offset_bounds-numbers-end
+offset_bounds-numbers-end g c = grind arith
+
+pub overflow_add-end : goal.overflow_add-end
+overflow_add-end g c = grind arith
+
+pub overflow_sub-end : goal.overflow_sub-end
+overflow_sub-end g c = grind arith
+
+pub overflow_sub-numbers : goal.overflow_sub-numbers
+overflow_sub-numbers g c = grind arith
+
+pub returns-in_err-lines-clause-read : goal.returns-in_err-lines-clause-read
+returns-in_err-lines-clause-read g c = grind arith
+
+pub returns-in_err-lines-clause-same : goal.returns-in_err-lines-clause-same
+returns-in_err-lines-clause-same g c = grind arith

@@ -1,4 +1,4 @@
-use Rattle.std.proofs.Common.{◌≢◌, ℕ, sym, subst}
+use Rattle.std.proofs.Common.{◌≢◌, ℕ, sym, subst, arith}
 use Rattle.std.specs.Prelude.{MatchBool}
 use Rattle.boxes.specs.State.{Receipt}
 use Rattle.sqlaudit.specs.Sorting.{IsGiven}
@@ -24,3 +24,6 @@ returns-then-not-stands_at-clause-refused c ks bs hk hb rising receipts are =
 
 pub returns-clause-taken : goal.returns-clause-taken
 returns-clause-taken c ks bs hk hb h = all_stand ks bs c.args.lines.now c.loop-at.at c.loop-at-test.false (c.loop-at.invariant ks bs hk hb)
+
+pub returns-then-not-stands_at-clause-taken : goal.returns-then-not-stands_at-clause-taken
+returns-then-not-stands_at-clause-taken c = grind arith

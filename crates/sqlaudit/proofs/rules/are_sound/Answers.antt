@@ -1,4 +1,4 @@
-use Rattle.std.proofs.Common.{◌≡◌, true, false, refl, subst}
+use Rattle.std.proofs.Common.{◌≡◌, true, false, refl, subst, arith}
 use Rattle.std.specs.Prelude.{MatchBool}
 use Rattle.std.specs.FinMap.{get}
 use Rattle.sigtext.specs.Bytes.{bytes_cmp}
@@ -71,3 +71,6 @@ returns c rising =
       }
       | false ↦ λ not. λ a. refuted not (clerk.1 (has_clerk_too lines a ks bs keys.entries boxes.entries))
     ] refl
+
+pub returns-then-not-is_office : goal.returns-then-not-is_office
+returns-then-not-is_office c = grind arith

@@ -205,3 +205,21 @@ returns-then-not-branch-2-clause-rest g c =
 
 pub returns-clause-rest : goal.returns-clause-rest
 returns-clause-rest g c = portioned_goes c.loop-at.invariant.0 c.loop-at.invariant.1.portioned _
+
+pub bounds-numbers-at : goal.bounds-numbers-at
+bounds-numbers-at g c = grind arith
+
+pub bounds-numbers-end : goal.bounds-numbers-end
+bounds-numbers-end g c = grind arith
+
+pub offset_bounds-numbers-at : goal.offset_bounds-numbers-at
+offset_bounds-numbers-at g c = grind arith
+
+pub offset_bounds-numbers-end : goal.offset_bounds-numbers-end
+offset_bounds-numbers-end g c = grind arith
+
+pub overflow_add-end : goal.overflow_add-end
+overflow_add-end g c = grind arith
+
+pub overflow_sub-end : goal.overflow_sub-end
+overflow_sub-end g c = grind arith

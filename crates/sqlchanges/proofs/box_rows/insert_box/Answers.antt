@@ -1,4 +1,4 @@
-use Rattle.std.proofs.Common.{map, sym, ap, ◌∙◌}
+use Rattle.std.proofs.Common.{map, sym, ap, ◌∙◌, arith}
 use Rattle.boxes.specs.Rows.{name_rule_of}
 use Rattle.sqltables.specs.Tables.{joined, rule_text}
 use Rattle.sqlchanges.proofs.box_rows.insert_box.Goals as goal
@@ -15,3 +15,12 @@ returns-in_ok-text-in-Ends-clause-done g c v tables ours pends free =
 pub returns-in-Begins-clause-done : goal.returns-in-Begins-clause-done
 returns-in-Begins-clause-done g c v tables ours pends free =
     c.insert_with_text-in-Begins.ensures.done v tables ours pends free (c.deref-in-Begins.ensures.value ∙ ap (λ r. rule_text (name_rule_of r)) (sym c.in-Begins.is))
+
+pub returns-in-Any-clause-rest : goal.returns-in-Any-clause-rest
+returns-in-Any-clause-rest g c = grind arith
+
+pub returns-in-Begins-clause-rest : goal.returns-in-Begins-clause-rest
+returns-in-Begins-clause-rest g c = grind arith
+
+pub returns-in_ok-text-in-Ends-clause-rest : goal.returns-in_ok-text-in-Ends-clause-rest
+returns-in_ok-text-in-Ends-clause-rest g c = grind arith

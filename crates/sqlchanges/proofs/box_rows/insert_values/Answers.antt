@@ -44,3 +44,9 @@ returns-clause-done g c v tables b ours pends free are = ran_then c.run.result c
     rw (opens, closes, from_minute, to_minute, quota, max_files, mode, kind, are.opens, are.closes, are.days, are.from_minute, are.to_minute, are.quota, are.max_files, are.mode, are.kind, are.text) in
     puts_box v (ours_of v ours) (says_of v ours insert_box insert_box_command insert_box_is) old new run.count tables c.args.name.now b it.schema it.means free
     (subst (λ p. Executes insert_box p old new (Ok run.count)) same ran.0))
+
+pub params-to_sql-requires-4-text-self : goal.params-to_sql-requires-4-text-self
+params-to_sql-requires-4-text-self g c = grind arith
+
+pub returns-clause-rest : goal.returns-clause-rest
+returns-clause-rest g c = grind arith

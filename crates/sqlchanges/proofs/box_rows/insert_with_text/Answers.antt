@@ -1,4 +1,4 @@
-use Rattle.std.proofs.Common.{◌≡◌, IsUtf8, sym, subst, rules, ◌∙◌}
+use Rattle.std.proofs.Common.{◌≡◌, IsUtf8, sym, subst, rules, ◌∙◌, arith}
 use Rattle.boxes.specs.Rows.{settings_of}
 use Rattle.sqltables.specs.Tables.{days_text}
 use Rattle.sqltables.proofs.RuleTexts.{days_are_text}
@@ -14,3 +14,9 @@ returns-clause-done g c v tables ours pends free text =
     let rule : c.in_ok-text.text.now ≡ c.args.text.now = search rules in
     let values = c.in_ok-values_of.ensures.values days (rule ∙ text) in
     c.insert_values.ensures.done v tables (settings_of c.args.row.now) ours pends free values
+
+pub returns-clause-rest : goal.returns-clause-rest
+returns-clause-rest g c = grind arith
+
+pub values_of-requires-text-text : goal.values_of-requires-text-text
+values_of-requires-text-text g c = grind arith

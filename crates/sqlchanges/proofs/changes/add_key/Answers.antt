@@ -1,4 +1,4 @@
-use Rattle.std.proofs.Common.{sym, subst, OnOk}
+use Rattle.std.proofs.Common.{sym, subst, OnOk, arith}
 use Rattle.sqlite.specs.Held.{state}
 use Rattle.boxes.specs.Steps.{AddKey}
 use Rattle.boxes.specs.Changes.{IsObeyed}
@@ -12,3 +12,9 @@ returns-clause-done g c v s after ours pends obeyed =
     let named = subst (λ id. IsObeyed s (AddKey id c.args.role c.args.secret.now) after) (sym c.in_ok-text_of.ensures) obeyed in
     let it = adds_key s c.in_ok-text_of.field-0.now c.args.role c.args.secret.now after named in
     subst (λ t. OnOk c.insert_key.result (Pends v (state g.S.Store c.insert_key.new.tx.conn.now) t)) (sym it.1) (c.insert_key.ensures.done v (tables_of s) ours pends it.0)
+
+pub insert_key-requires-text-id : goal.insert_key-requires-text-id
+insert_key-requires-text-id g c = grind arith
+
+pub returns-clause-rest : goal.returns-clause-rest
+returns-clause-rest g c = grind arith

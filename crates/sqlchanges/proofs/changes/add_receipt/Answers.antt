@@ -1,4 +1,4 @@
-use Rattle.std.proofs.Common.{pos, sym, ap, ◌∙◌}
+use Rattle.std.proofs.Common.{pos, sym, ap, ◌∙◌, arith}
 use Rattle.sqlchanges.proofs.Numbers.{handed}
 use Rattle.sqlchanges.proofs.Chained.{gave_up, refused}
 use Rattle.sqlchanges.proofs.changes.add_receipt.Goals as goal
@@ -24,3 +24,6 @@ returns-in_default-2-clause-done g c v tables at r ours pends free number box_is
 
 pub returns-clause-rest : goal.returns-clause-rest
 returns-clause-rest g c = c.insert_receipt.ensures.rest
+
+pub insert_receipt-requires-text-key : goal.insert_receipt-requires-text-key
+insert_receipt-requires-text-key g c = grind arith

@@ -1,4 +1,4 @@
-use Rattle.std.proofs.Common.{sym, subst, OnOk}
+use Rattle.std.proofs.Common.{sym, subst, OnOk, arith}
 use Rattle.sqlite.specs.Held.{state}
 use Rattle.boxes.specs.Steps.{CloseBox}
 use Rattle.boxes.specs.Changes.{IsObeyed}
@@ -18,3 +18,12 @@ returns-clause-done g c v s after ours pends obeyed =
 
 pub returns-in_default-clause-rest : goal.returns-in_default-clause-rest
 returns-in_default-clause-rest g c = refused c.args.tx.now
+
+pub returns-clause-rest : goal.returns-clause-rest
+returns-clause-rest g c = grind arith
+
+pub returns-in_default-clause-done : goal.returns-in_default-clause-done
+returns-in_default-clause-done g c = grind arith
+
+pub update_closes-requires-text-name : goal.update_closes-requires-text-name
+update_closes-requires-text-name g c = grind arith

@@ -1,4 +1,4 @@
-use Rattle.std.proofs.Common.{sym, subst, OnOk}
+use Rattle.std.proofs.Common.{sym, subst, OnOk, arith}
 use Rattle.sqlite.specs.Held.{state}
 use Rattle.boxes.specs.Steps.{LimitKey}
 use Rattle.boxes.specs.Changes.{IsObeyed}
@@ -16,3 +16,12 @@ returns-clause-done g c s after pends obeyed =
     let named = subst (λ b. IsObeyed s (LimitKey id b) after) (sym c.in_ok-text_of-2.ensures) by_id in
     let it = limits_key s id in_box after named in
     subst (λ t. OnOk c.insert_limit.result (Pends v2 (state g.S.Store c.insert_limit.new.tx.conn.now) t)) (sym it.1) (c.insert_limit.ensures.done (tables_of s) pends it.0)
+
+pub insert_limit-requires-text-id : goal.insert_limit-requires-text-id
+insert_limit-requires-text-id g c = grind arith
+
+pub insert_limit-requires-text-in_box : goal.insert_limit-requires-text-in_box
+insert_limit-requires-text-in_box g c = grind arith
+
+pub returns-clause-rest : goal.returns-clause-rest
+returns-clause-rest g c = grind arith

@@ -1,4 +1,4 @@
-use Rattle.std.proofs.Common.{sym, subst, OnOk}
+use Rattle.std.proofs.Common.{sym, subst, OnOk, arith}
 use Rattle.sqlite.specs.Held.{state}
 use Rattle.boxes.specs.Steps.{RevokeKey}
 use Rattle.boxes.specs.Changes.{IsObeyed}
@@ -12,3 +12,6 @@ returns-clause-done g c v s after ours pends obeyed =
     let named = subst (λ id. IsObeyed s (RevokeKey id) after) (sym c.in_ok-text_of.ensures) obeyed in
     let it = revokes_key s c.in_ok-text_of.field-0.now after named in
     subst (λ t. OnOk c.update_revoked.result (Pends v (state g.S.Store c.update_revoked.new.tx.conn.now) t)) (sym it.2) (c.update_revoked.ensures.done v (tables_of s) it.0 ours pends it.1)
+
+pub returns-clause-rest : goal.returns-clause-rest
+returns-clause-rest g c = grind arith

@@ -1,4 +1,4 @@
-use Rattle.std.proofs.Common.{◌≡◌, sym, ap, subst, OnOk, ◌∙◌}
+use Rattle.std.proofs.Common.{◌≡◌, sym, ap, subst, OnOk, ◌∙◌, arith}
 use Rattle.sqlite.specs.Held.{state}
 use Rattle.sqltables.specs.Schema.{v2}
 use Rattle.sqltables.specs.Tables.{tables_of}
@@ -16,3 +16,6 @@ returns-clause-done g c s after pends obeyed =
 
 pub returns-in_default-clause-rest : goal.returns-in_default-clause-rest
 returns-in_default-clause-rest g c = refused c.args.tx.now
+
+pub returns-clause-rest : goal.returns-clause-rest
+returns-clause-rest g c = grind arith

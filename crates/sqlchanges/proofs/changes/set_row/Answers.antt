@@ -1,4 +1,4 @@
-use Rattle.std.proofs.Common.{◌≡◌, true, false, Option, None, Some, is_some, refl, sym, ◌∙◌}
+use Rattle.std.proofs.Common.{◌≡◌, true, false, Option, None, Some, is_some, refl, sym, ◌∙◌, arith}
 use Rattle.sqlchanges.proofs.changes.set_row.Goals as goal
 
 some_of : {X : Type 0} (o : Option X) → is_some o ≡ true → (x : X) × (o ≡ Some x)
@@ -16,3 +16,9 @@ returns-then-stands-clause-done g c v tables ours pends stands =
 pub returns-else-stands-clause-done : goal.returns-else-stands-clause-done
 returns-else-stands-clause-done g c v tables ours pends stands =
     c.insert_file.ensures.done v tables ours pends (none_of (tables.file (record { box = c.args.in_box.now; name = c.args.name.now })) (sym stands ∙ c.if-stands.false))
+
+pub returns-else-stands-clause-rest : goal.returns-else-stands-clause-rest
+returns-else-stands-clause-rest g c = grind arith
+
+pub returns-then-stands-clause-rest : goal.returns-then-stands-clause-rest
+returns-then-stands-clause-rest g c = grind arith

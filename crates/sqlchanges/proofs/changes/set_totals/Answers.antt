@@ -1,4 +1,4 @@
-use Rattle.std.proofs.Common.{subst, OnOk}
+use Rattle.std.proofs.Common.{subst, OnOk, arith}
 use Rattle.sqlite.specs.Held.{state}
 use Rattle.sqltables.specs.Changes.{with_box, with_totals}
 use Rattle.sqltables.specs.Means.{Pends}
@@ -16,3 +16,12 @@ returns-in_default-clause-rest g c = refused c.args.tx.now
 
 pub returns-in_default-2-clause-rest : goal.returns-in_default-2-clause-rest
 returns-in_default-2-clause-rest g c = refused c.args.tx.now
+
+pub returns-clause-rest : goal.returns-clause-rest
+returns-clause-rest g c = grind arith
+
+pub returns-in_default-2-clause-done : goal.returns-in_default-2-clause-done
+returns-in_default-2-clause-done g c = grind arith
+
+pub returns-in_default-clause-done : goal.returns-in_default-clause-done
+returns-in_default-clause-done g c = grind arith

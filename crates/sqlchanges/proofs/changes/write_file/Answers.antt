@@ -1,4 +1,4 @@
-use Rattle.std.proofs.Common.{◌+◌}
+use Rattle.std.proofs.Common.{◌+◌, arith}
 use Rattle.boxes.specs.State.{Place}
 use Rattle.sqltables.specs.Tables.{Tables}
 use Rattle.sqltables.specs.Changes.{with_file, with_receipt, without_pieces, with_bytes, NoPieces}
@@ -34,3 +34,6 @@ pub returns-clause-rest : goal.returns-clause-rest
 returns-clause-rest g c =
     let two = goes_on_maybe c.in_ok-write_rows.ensures.rest c.in_ok-insert_pieces.ensures.rest in
     goes_on_then g.S.Store _ _ _ _ _ two c.set_totals.ensures.rest
+
+pub insert_pieces-requires : goal.insert_pieces-requires
+insert_pieces-requires g c = grind arith

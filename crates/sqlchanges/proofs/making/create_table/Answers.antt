@@ -17,3 +17,6 @@ returns-clause-done g c before after creates sees = ran_then c.run.result c.run.
     let early : HasCleanDisk old = omega (arith, c.run.ensures.rest.survives.clean) in
     let ran = run.executed in
     creates run.count (sees early run.inside ran.1.was_open) ran.0)
+
+pub returns-clause-rest : goal.returns-clause-rest
+returns-clause-rest g c = grind arith

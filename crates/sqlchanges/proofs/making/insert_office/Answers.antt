@@ -14,3 +14,6 @@ returns-clause-done g c sees = ran_then c.run.result c.run.ensures.ran (λ clean
     let east_is : to_z w32 (of_z w32 c.from.result) ≡ c.args.east = grind (arith, to_z-of_z, c.ranges.east.sfits, c.from.ensures) in
     let ran = rw (c.params-to_sql.ensures, east_is) at run.executed in
     puts_office old new run.count c.args.east (sees early run.inside ran.1.was_open) ran.0)
+
+pub returns-clause-rest : goal.returns-clause-rest
+returns-clause-rest g c = grind arith

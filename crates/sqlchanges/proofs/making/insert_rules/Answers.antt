@@ -12,3 +12,6 @@ returns-clause-done g c tables sees = ran_then c.run.result c.run.ensures.ran (Î
     let early : HasCleanDisk old = omega (arith, c.run.ensures.rest.survives.clean) in
     let ran = rw (c.params-to_sql.ensures) at run.executed in
     puts_rules old new run.count tables c.args.seconds (sees early run.inside ran.1.was_open) ran.0)
+
+pub returns-clause-rest : goal.returns-clause-rest
+returns-clause-rest g c = grind arith

@@ -1,4 +1,4 @@
-use Rattle.std.proofs.Common.{false, refl, subst, w16}
+use Rattle.std.proofs.Common.{false, refl, subst, w16, arith}
 use Rattle.std.proofs.lemmas.Int.{to_z-of_z}
 use Rattle.sqlite.specs.Held.{state}
 use Rattle.boxes.specs.declared.rows.Role.TheVariants.{Clerk}
@@ -41,3 +41,9 @@ returns-clause-rest g c =
     let two = goes_on_then g.S.Store _ _ _ _ _ c.create_tables.ensures.rest c.insert_office.ensures.rest in
     let three = goes_on_then g.S.Store _ _ _ _ _ two c.insert_key.ensures.rest in
     goes_on_then g.S.Store _ _ _ _ _ three c.upgrade.ensures.rest
+
+pub returns-in_err-create_tables-clause-done : goal.returns-in_err-create_tables-clause-done
+returns-in_err-create_tables-clause-done g c = grind arith
+
+pub returns-in_err-create_tables-clause-unstaged : goal.returns-in_err-create_tables-clause-unstaged
+returns-in_err-create_tables-clause-unstaged g c = grind arith

@@ -1,3 +1,4 @@
+use Rattle.std.proofs.Common.{arith}
 use Rattle.sqlchanges.proofs.Chained.{failed, succeeded}
 use Rattle.sqlchanges.proofs.running.run.Goals as goal
 
@@ -6,3 +7,9 @@ returns-in_err-execute-clause-rest g c = failed c.from_residual.result c.execute
 
 pub returns-clause-rest : goal.returns-clause-rest
 returns-clause-rest g c = succeeded _ c.in_ok-execute.ensures.rest
+
+pub returns-clause-ran : goal.returns-clause-ran
+returns-clause-ran g c = grind arith
+
+pub returns-in_err-execute-clause-ran : goal.returns-in_err-execute-clause-ran
+returns-in_err-execute-clause-ran g c = grind arith

@@ -68,3 +68,9 @@ returns-then-branch-clause-rest g c = followed _ (begun_then (begun_then c.in_ok
 
 pub returns-clause-rest : goal.returns-clause-rest
 returns-clause-rest g c = succeeded _ (begun_then (begun_then c.in_ok-has_staged.ensures.rest (within c.in_ok-delete_staged.ensures.rest)) c.in_ok-has_staged-2.ensures.rest)
+
+pub returns-then-branch-clause-emptied : goal.returns-then-branch-clause-emptied
+returns-then-branch-clause-emptied g c = grind arith
+
+pub returns-then-branch-clause-same : goal.returns-then-branch-clause-same
+returns-then-branch-clause-same g c = grind arith

@@ -16,3 +16,6 @@ returns-clause-done g c v tables ours pends = ran_then c.run.result c.run.ensure
     let it = pends early run.inside ran.1.was_open in
     drops_file v (ours_of v ours) (says_of v ours delete_file delete_file_command delete_file_is) old new run.count tables
     (record { box = c.args.in_box.now; name = c.args.name.now }) it.schema it.means ran.0)
+
+pub returns-clause-rest : goal.returns-clause-rest
+returns-clause-rest g c = grind arith

@@ -15,3 +15,6 @@ returns-clause-done g c v tables ours pends free = ran_then c.run.result c.run.e
     let ran = rw (c.params-to_sql.ensures, c.params-to_sql-2.ensures, c.params-to_sql-3.ensures) at run.executed in
     let it = pends early run.inside ran.1.was_open in
     puts_file v (ours_of v ours) (says_of v ours insert_file insert_file_command insert_file_is) old new run.count tables (record { box = c.args.box_name.now; name = c.args.name.now }) c.args.receipt it.schema it.means free ran.0)
+
+pub returns-clause-rest : goal.returns-clause-rest
+returns-clause-rest g c = grind arith

@@ -23,3 +23,6 @@ returns-clause-done g c v tables ours pends free = ran_then c.run.result c.run.e
     let same : params ≡ given_key c.args.id.now c.args.role c.args.secret.now = rw number_is in
     puts_key v (ours_of v ours) (says_of v ours insert_key insert_key_command insert_key_is) old new run.count tables c.args.id.now c.args.role c.args.secret.now it.schema it.means free
     (subst (λ p. Executes insert_key p old new (Ok run.count)) same ran.0))
+
+pub returns-clause-rest : goal.returns-clause-rest
+returns-clause-rest g c = grind arith

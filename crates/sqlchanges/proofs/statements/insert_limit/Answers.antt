@@ -13,3 +13,6 @@ returns-clause-done g c tables pends free = ran_then c.run.result c.run.ensures.
     let ran = rw (c.params-to_sql.ensures, c.params-to_sql-2.ensures) at run.executed in
     let it = pends early run.inside ran.1.was_open in
     puts_limit old new run.count tables (record { key = c.args.id.now; box = c.args.in_box.now }) it.schema it.means free ran.0)
+
+pub returns-clause-rest : goal.returns-clause-rest
+returns-clause-rest g c = grind arith

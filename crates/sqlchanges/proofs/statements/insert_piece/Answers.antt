@@ -16,3 +16,6 @@ returns-clause-done g c v tables after ours pends adds = ran_then c.run.result c
     let it = pends early run.inside ran.1.was_open in
     adds_piece v (ours_of v ours) (says_of v ours insert_piece insert_piece_command insert_piece_is) old new run.count tables after
     (record { place = record { box = c.args.box_name.now; name = c.args.name.now }; at = c.args.part }) c.args.bytes.now it.schema it.means adds.0 adds.1 ran.0)
+
+pub returns-clause-rest : goal.returns-clause-rest
+returns-clause-rest g c = grind arith

@@ -52,3 +52,12 @@ loop-piece-init g c =
         done = λ v tables ours pends none. subst (Pends v entry) (sym (no_pieces tables place (held c.args.bytes.now) none)) pends;
       },
     )
+
+pub loop-piece-smaller : goal.loop-piece-smaller
+loop-piece-smaller g c = grind arith
+
+pub overflow_add-part : goal.overflow_add-part
+overflow_add-part g c = grind arith
+
+pub returns-clause-rest : goal.returns-clause-rest
+returns-clause-rest g c = grind arith

@@ -24,3 +24,6 @@ returns-clause-done g c v tables at r ours pends free number box_is name_is size
     let same : params ≡ given_receipt at r = rw (number, ← box_is, ← name_is, ← size, ← digest, ← moment, ← key) in
     puts_receipt v (ours_of v ours) (says_of v ours insert_receipt insert_receipt_command insert_receipt_is) old new run.count tables at r it.schema it.means free
     (subst (λ p. Executes insert_receipt p old new (Ok run.count)) same ran.0))
+
+pub returns-clause-rest : goal.returns-clause-rest
+returns-clause-rest g c = grind arith

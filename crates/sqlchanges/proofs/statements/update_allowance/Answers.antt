@@ -13,3 +13,6 @@ returns-clause-done g c tables pends = ran_then c.run.result c.run.ensures.ran (
     let ran = rw (c.params-to_sql.ensures) at run.executed in
     let it = pends early run.inside ran.1.was_open in
     sets_allowance old new run.count tables c.args.seconds it.schema it.means ran.0)
+
+pub returns-clause-rest : goal.returns-clause-rest
+returns-clause-rest g c = grind arith

@@ -22,3 +22,6 @@ returns-clause-done g c v tables b second ours pends there moment = ran_then c.r
     let same : params ≡ given_closing c.args.name.now second = rw (← moment) in
     sets_closing v (ours_of v ours) (says_of v ours update_closes update_closes_command update_closes_is) old new run.count tables c.args.name.now b second it.schema it.means there
     (subst (λ p. Executes update_closes p old new (Ok run.count)) same ran.0))
+
+pub returns-clause-rest : goal.returns-clause-rest
+returns-clause-rest g c = grind arith

@@ -15,3 +15,6 @@ returns-clause-done g c v tables was ours pends there = ran_then c.run.result c.
     let ran = rw (c.params-to_sql.ensures, c.params-to_sql-2.ensures, c.params-to_sql-3.ensures) at run.executed in
     let it = pends early run.inside ran.1.was_open in
     sets_file v (ours_of v ours) (says_of v ours update_file update_file_command update_file_is) old new run.count tables (record { box = c.args.box_name.now; name = c.args.name.now }) was c.args.receipt it.schema it.means there ran.0)
+
+pub returns-clause-rest : goal.returns-clause-rest
+returns-clause-rest g c = grind arith

@@ -15,3 +15,6 @@ returns-clause-done g c v tables key ours pends there = ran_then c.run.result c.
     let ran = rw c.params-to_sql.ensures at run.executed in
     let it = pends early run.inside ran.1.was_open in
     revokes_key v (ours_of v ours) (says_of v ours update_revoked update_revoked_command update_revoked_is) old new run.count tables c.args.id.now key it.schema it.means there ran.0)
+
+pub returns-clause-rest : goal.returns-clause-rest
+returns-clause-rest g c = grind arith

@@ -23,3 +23,6 @@ returns-clause-done g c v tables b sum ours pends there used = ran_then c.run.re
     let same : params ≡ given_totals c.args.name.now sum c.args.count = rw (← used) in
     sets_totals v (ours_of v ours) (says_of v ours update_totals update_totals_command update_totals_is) old new run.count tables c.args.name.now b sum c.args.count it.schema it.means there
     (subst (λ p. Executes update_totals p old new (Ok run.count)) same ran.0))
+
+pub returns-clause-rest : goal.returns-clause-rest
+returns-clause-rest g c = grind arith

@@ -96,3 +96,6 @@ returns-in_err-write_change-clause-kept g c s means =
 
 pub returns-then-not-is_autocommit-clause-crash : goal.returns-then-not-is_autocommit-clause-crash
 returns-then-not-is_autocommit-clause-crash g c s after means sound change clean trees left = inl left
+
+pub transaction-tx-requires : goal.transaction-tx-requires
+transaction-tx-requires g c = grind arith

@@ -60,3 +60,12 @@ returns-clause-rest g c =
     subst (λ h. LeavesOffice old (state g.S.Store h) (Ok c.in_ok-answer.answer)) same (committed old begun mid new begins c.put.ensures.rest.survives (λ clean. c.in_ok-answer.ensures.rest.running clean begins.inside)
     (λ s means. c.in_ok-answer.ensures.still s (first s means)) c.commit.ensures.survives
     (λ clean. c.in_ok-commit.ensures.ok clean) c.in_ok-answer.answer)
+
+pub returns-in_err-answer-clause-rest : goal.returns-in_err-answer-clause-rest
+returns-in_err-answer-clause-rest g c = grind arith
+
+pub returns-then-not-is_autocommit-clause-rest : goal.returns-then-not-is_autocommit-clause-rest
+returns-then-not-is_autocommit-clause-rest g c = grind arith
+
+pub transaction-tx-requires : goal.transaction-tx-requires
+transaction-tx-requires g c = grind arith

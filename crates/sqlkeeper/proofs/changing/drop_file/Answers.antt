@@ -50,3 +50,9 @@ returns-clause-rest g c = begun_then (begun_then c.in_ok-size.ensures.rest c.in_
 
 pub returns-in_default-clause-rest : goal.returns-in_default-clause-rest
 returns-in_default-clause-rest g c = followed _ c.in_ok-size.ensures.rest
+
+pub returns-in_default-clause-done : goal.returns-in_default-clause-done
+returns-in_default-clause-done g c = grind arith
+
+pub standing_size-requires-text-in_box : goal.standing_size-requires-text-in_box
+standing_size-requires-text-in_box g c = grind arith

@@ -112,3 +112,15 @@ returns-in_err-make_office-clause-kept g c bare =
     let begins : Begins old begun = rw c.transaction-tx.ensures.begun (record { now_is = refl; committed_is = refl; was_open = λ is_open. is_open; clean = λ clean. clean; leaves = λ trees left. left; inside = refl }) in
     let out = bare_dropped old begun mid end begins c.make_office.ensures.rest.survives c.make_office.ensures.rest.uncommitted c.drop-tx.ensures.undone c.drop-tx.ensures.survives bare in
     on_any_error c.from_residual.result (subst (λ h. IsBare (state g.S.Store h)) same out)
+
+pub returns-in_err-make_office-clause-crash : goal.returns-in_err-make_office-clause-crash
+returns-in_err-make_office-clause-crash g c = grind arith
+
+pub returns-in_err-make_office-clause-honest : goal.returns-in_err-make_office-clause-honest
+returns-in_err-make_office-clause-honest g c = grind arith
+
+pub returns-then-not-is_autocommit-clause-crash : goal.returns-then-not-is_autocommit-clause-crash
+returns-then-not-is_autocommit-clause-crash g c = grind arith
+
+pub transaction-tx-requires : goal.transaction-tx-requires
+transaction-tx-requires g c = grind arith

@@ -100,3 +100,12 @@ returns-clause-honest g c =
     let mid = state g.S.Store c.upgrade.new.tx.conn.now in
     let end = state g.S.Store c.commit.new.self.0 in
     subst (λ h. HasCleanDisk (state g.S.Store h) → HasCleanDisk (state g.S.Store c.args.conn.now)) (same_end g c) (clean_before old begun mid end (begins g c) c.upgrade.ensures.rest.survives c.commit.ensures.survives)
+
+pub returns-then-not-is_autocommit-clause-crash : goal.returns-then-not-is_autocommit-clause-crash
+returns-then-not-is_autocommit-clause-crash g c = grind arith
+
+pub returns-then-not-is_autocommit-clause-kept : goal.returns-then-not-is_autocommit-clause-kept
+returns-then-not-is_autocommit-clause-kept g c = grind arith
+
+pub transaction-tx-requires : goal.transaction-tx-requires
+transaction-tx-requires g c = grind arith

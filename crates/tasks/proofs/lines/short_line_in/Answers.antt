@@ -1,4 +1,5 @@
 use Rattle.std.proofs.Common.{ap, arith, length}
+use Rattle.std.proofs.lemmas.Grind.{common_steps}
 use Rattle.tasks.proofs.LineCuts.{no_short_line, start_line}
 use Rattle.tasks.proofs.lines.short_line_in.Goals as goal
 
@@ -9,3 +10,6 @@ pub returns-else-line-from : goal.returns-else-line-from
 returns-else-line-from c = λ text is line whole short.
     let same = c.in_ok-line.ensures.only line (start_line text c.args.start.now line c.args.most is whole short) in
     absurd (omega (arith, c.if-line-from.false, c.from.ensures, ap length same, short))
+
+pub returns-then-line-from : goal.returns-then-line-from
+returns-then-line-from c = grind (arith, common_steps)

@@ -1,4 +1,4 @@
-use Rattle.std.proofs.Common.{◌∙◌, ◌||◌, ap, sym}
+use Rattle.std.proofs.Common.{◌∙◌, ◌||◌, ap, sym, arith}
 use Rattle.std.proofs.lemmas.List.{take_all}
 use Rattle.std.proofs.lemmas.List.Sums.{fold_more}
 use Rattle.clap.specs.Words.{with_rule, rule_of}
@@ -18,3 +18,9 @@ loop-argument-preserved c =
 pub returns : goal.returns
 unfolding app_in
 returns c = rw (← take_all _ _ c.loop-argument-test.false) c.loop-argument.invariant
+
+pub loop-argument-init : goal.loop-argument-init
+loop-argument-init c = grind arith
+
+pub offset_bounds-argument-items-argument-index : goal.offset_bounds-argument-items-argument-index
+offset_bounds-argument-items-argument-index c = grind arith

@@ -1,4 +1,4 @@
-use Rattle.std.proofs.Common.{Bor, ◌≡◌, ◌∙◌, ◌<◌, ◌+◌, ℕ, List, length, get_or, take, ap, sym}
+use Rattle.std.proofs.Common.{Bor, ◌≡◌, ◌∙◌, ◌<◌, ◌+◌, ℕ, List, length, get_or, take, ap, sym, arith}
 use Rattle.std.proofs.lemmas.List.{take_all}
 use Rattle.std.proofs.lemmas.List.Sums.{fold_more}
 use Rattle.clap.specs.Words.{App, with_subcommand}
@@ -17,3 +17,6 @@ loop-form-preserved c = grown _ _ _ _ _ _ c.loop-form-test.true c.loop-form.inva
 
 pub returns : goal.returns
 returns c app is = rw (← is, ← take_all _ _ c.loop-form-test.false) c.loop-form.invariant
+
+pub offset_bounds-forms-form-index : goal.offset_bounds-forms-form-index
+offset_bounds-forms-form-index c = grind arith

@@ -1,3 +1,4 @@
+use Rattle.std.proofs.Common.{arith}
 use Rattle.wire.specs.Judging.{malformed}
 use Rattle.wire.proofs.Announced.{fields_break}
 use Rattle.wire.proofs.announce.read_announcement.Goals as goal
@@ -9,3 +10,6 @@ returns-in-Err-clause-err c =
 
 pub returns-in_default-clause-err : goal.returns-in_default-clause-err
 returns-in_default-clause-err c = malformed c.in_default.ensures.none
+
+pub returns-in-Ok-clause-ok : goal.returns-in-Ok-clause-ok
+returns-in-Ok-clause-ok c = grind arith

@@ -1,6 +1,7 @@
-use Rattle.std.proofs.Common.{refl, ◌∙◌}
+use Rattle.std.proofs.Common.{refl, ◌∙◌, arith}
 use Rattle.std.specs.Io.KnownBytes.{prepend_known}
 use Rattle.std.proofs.KnownBytes.{Keeps-refl}
+use Rattle.std.proofs.lemmas.Grind.{common_steps}
 use Rattle.wire.specs.Waiting.{taken, waiting}
 use Rattle.wire.proofs.Backlogs.{kept_grown}
 use Rattle.wire.proofs.ReadAhead.{not_empty, empty, gave, consumes_later, at_end}
@@ -39,3 +40,9 @@ returns-then-not-is_empty g c =
       room = part.room ∙ c.requires.room;
       count = record { err = tt; ok = refl };
     }
+
+pub read_more-requires : goal.read_more-requires
+read_more-requires g c = grind arith
+
+pub returns-in_err-read_more-clause-fault : goal.returns-in_err-read_more-clause-fault
+returns-in_err-read_more-clause-fault g c = grind (arith, common_steps)

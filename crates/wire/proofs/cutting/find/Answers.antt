@@ -1,5 +1,6 @@
 use Rattle.std.proofs.Common.{◌≡◌, ℕ, List, [], length, take, Option, Ok, sym, ap, subst, ◌∙◌, arith, lit<, lit≤}
 use Rattle.std.proofs.lemmas.List.{length-take, length-take-le}
+use Rattle.std.proofs.lemmas.Grind.{common_steps}
 use Rattle.sigtext.specs.declared.refusal.Refusal.TheVariants as rule
 use Rattle.wire.specs.Framing.{IsFront, Next, Refused, Ended, Truncated}
 use Rattle.wire.specs.Framing as next
@@ -106,3 +107,6 @@ returns-in-Err g c =
       room = c.read_head.ensures.room;
       count = record { err = c.in-Err.ensures.count.err; ok = tt };
     }
+
+pub shared_ref_as_front-read_announcement : goal.shared_ref_as_front-read_announcement
+shared_ref_as_front-read_announcement g c = grind (arith, common_steps)

@@ -22,3 +22,12 @@ returns-clause-text c =
     ∙ ap (λ (t : List ℕ). head ++ t) c.copy_from_slice.ensures.after)
     ∙ append_assoc head first rest
     ∙ ap (λ (t : List ℕ). head ++ t) whole
+
+pub copy_from_slice-requires : goal.copy_from_slice-requires
+copy_from_slice-requires c = grind arith
+
+pub returns-clause-full : goal.returns-clause-full
+returns-clause-full c = grind arith
+
+pub returns-clause-within : goal.returns-clause-within
+returns-clause-within c = grind arith

@@ -1,4 +1,5 @@
-use Rattle.std.proofs.Common.{ap, sym, ◌∙◌}
+use Rattle.std.proofs.Common.{ap, sym, ◌∙◌, arith}
+use Rattle.std.proofs.lemmas.Grind.{common_steps}
 use Rattle.hex.specs.Hex.{encode_lower}
 use Rattle.wire.specs.Answers.{Found, answer_text}
 use Rattle.wire.proofs.Texts.{found_shown, found_to_head}
@@ -31,3 +32,12 @@ returns-in-Err-clause-sent g c =
     (c.front_text-len.ensures.text ∙ found_shown c.args.number digits bytes
     ∙ ap (λ b. answer_text b (Found c.args.number digits bytes)) (sym c.if-is_head.false))
     (sends_no_more _ c.front_text-len.result.1.now _ _ c.in-Err.fault c.in-Err.ensures.sent)
+
+pub returns-in-Ok-clause-count : goal.returns-in-Ok-clause-count
+returns-in-Ok-clause-count g c = grind arith
+
+pub slice_bounds-send-end : goal.slice_bounds-send-end
+slice_bounds-send-end g c = grind (arith, common_steps)
+
+pub slice_bounds-send-end-2 : goal.slice_bounds-send-end-2
+slice_bounds-send-end-2 g c = grind (arith, common_steps)

@@ -1,4 +1,4 @@
-use Rattle.std.proofs.Common.{◌≡◌, List, ℕ, Result, Ok, Err, refl, sym, ap, subst, ◌∙◌}
+use Rattle.std.proofs.Common.{◌≡◌, List, ℕ, Result, Ok, Err, refl, sym, ap, subst, ◌∙◌, arith}
 use Rattle.std.specs.Borrow.{Bor}
 use Rattle.wire.specs.Feeding.{CountsReads}
 use Rattle.wire.specs.declared.fault.WireFault.{WireFault}
@@ -64,3 +64,12 @@ returns-in-Ok-Refused-clause-whole g c = λ e. absurd (differ _ _ refl refl (sym
 
 pub returns-in-Ok-Refused-clause-count : goal.returns-in-Ok-Refused-clause-count
 returns-in-Ok-Refused-clause-count g c = counts_none c.piece.result _ c.pieces.feed.reader.now.faults _ c.in-Ok-Refused.is c.piece.follows.holds-at-none.2 ∙ c.pieces.invariant.count
+
+pub pieces-init : goal.pieces-init
+pieces-init g c = grind arith
+
+pub pieces-smaller : goal.pieces-smaller
+pieces-smaller g c = grind arith
+
+pub returns-in-Err-clause-fault : goal.returns-in-Err-clause-fault
+returns-in-Err-clause-fault g c = grind arith

@@ -1,4 +1,4 @@
-use Rattle.std.proofs.Common.{Result, IfErr, OnOk, OnErr, ◌≡◌, ◌⊎◌, subst, sym}
+use Rattle.std.proofs.Common.{Result, IfErr, OnOk, OnErr, ◌≡◌, ◌⊎◌, subst, sym, arith}
 use Rattle.std.specs.Prelude.{IsErrOf}
 use Rattle.boxes.specs.Changes.{IsPastFull}
 use Rattle.boxes.specs.Sound.{IsSound}
@@ -47,3 +47,21 @@ returns-clause-crash g c s after m sound is honest =
     let Either : Type 0 = LeavesEither (λ (k : CachedKeeper g.row.K.Denot) t. g.K.Keeper.leaves k.keeper t) (λ k. g.K.Keeper.leaves_whole k.keeper) c.args.self.now (new g c) s after in
     let more : LeavesEither g.K.Keeper.leaves g.K.Keeper.leaves_whole c.args.self.now.keeper c.apply.new.self s after → Either = λ it. record { either = it.either; whole = it.whole } in
     subst (λ (r : Result (Unit {0}) KeepFault). OnErr r Either) (sym c.or_forget.ensures.same) (on_err_more c.apply.result (c.apply.ensures.crash s after m.0 sound is honest) more)
+
+pub returns-clause-count : goal.returns-clause-count
+returns-clause-count g c = grind arith
+
+pub returns-clause-emptied : goal.returns-clause-emptied
+returns-clause-emptied g c = grind arith
+
+pub returns-clause-opened : goal.returns-clause-opened
+returns-clause-opened g c = grind arith
+
+pub returns-clause-same : goal.returns-clause-same
+returns-clause-same g c = grind arith
+
+pub returns-clause-staged : goal.returns-clause-staged
+returns-clause-staged g c = grind arith
+
+pub returns-clause-store : goal.returns-clause-store
+returns-clause-store g c = grind arith

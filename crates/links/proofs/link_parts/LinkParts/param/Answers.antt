@@ -1,4 +1,4 @@
-use Rattle.std.proofs.Common.{◌∙◌, ◌++◌, List, ℕ, ap}
+use Rattle.std.proofs.Common.{◌∙◌, ◌++◌, List, ℕ, ap, arith}
 use Rattle.percent_encoding.specs.Percent.{percent_decode}
 use Rattle.links.proofs.SixLemmas.{value_read, whatever_err}
 use Rattle.links.proofs.link_parts.LinkParts.param.Goals as goal
@@ -16,3 +16,6 @@ returns-clause-found c r p is =
     let found = c.in-Some.ensures.some p.params is.signed.params in
     let empty = ap (λ (t : List ℕ). t ++ percent_decode c.percent_decode.result.bytes.now) c.in_ok-value.ensures.items in
     value_read c.in-Some.raw.now _ p.params c.args.name.now found (c.in_ok-append_to.ensures.ok ∙ empty ∙ c.percent_decode.ensures.bytes)
+
+pub returns-in_default-clause-found : goal.returns-in_default-clause-found
+returns-in_default-clause-found c = grind arith

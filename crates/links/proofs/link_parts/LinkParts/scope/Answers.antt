@@ -10,3 +10,15 @@ returns c r p is =
     let stands = c.split_at.ensures.back ∙ ap (drop n) c.credential.ensures in
     let left : (length rest - 16 - 10) + 26 ≡ length rest = omega (arith, c.split_at.ensures.back_len, c.args.self.now.scope_fits, ap length c.credential.ensures) in
     (key_id, scope_cut _ _ _ p.scope rest n _ is.credential is.key_id_length stands left)
+
+pub overflow_sub-result : goal.overflow_sub-result
+overflow_sub-result c = grind arith
+
+pub slice_bounds-result-count-2 : goal.slice_bounds-result-count-2
+slice_bounds-result-count-2 c = grind arith
+
+pub slice_bounds-result-end : goal.slice_bounds-result-end
+slice_bounds-result-end c = grind arith
+
+pub slice_bounds-result-start-2 : goal.slice_bounds-result-start-2
+slice_bounds-result-start-2 c = grind arith

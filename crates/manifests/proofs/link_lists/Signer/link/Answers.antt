@@ -1,4 +1,4 @@
-use Rattle.std.proofs.Common.{[], ◌++◌, ap, subst, ◌∙◌}
+use Rattle.std.proofs.Common.{[], ◌++◌, ap, subst, ◌∙◌, arith}
 use Rattle.links.specs.Orders.{IsLinkFor, Terms}
 use Rattle.manifests.proofs.link_lists.Signer.link.Goals as goal
 
@@ -23,3 +23,6 @@ returns-in-Ok-write_link-clause-link c =
       }) leads,
       written ∙ ap (λ t. t ++ target) c.in-Ok-front_of.ensures,
     )
+
+pub unreachable-requires : goal.unreachable-requires
+unreachable-requires c = grind arith

@@ -1,4 +1,4 @@
-use Rattle.std.proofs.Common.{◌≡◌, ◌∙◌, List, [], map, length, Bor, ℕ, ap, refl, sym, subst}
+use Rattle.std.proofs.Common.{◌≡◌, ◌∙◌, List, [], map, length, Bor, ℕ, ap, refl, sym, subst, arith}
 use Rattle.std.proofs.lemmas.List.{length-map}
 use Rattle.std.proofs.lemmas.Bool.{false≢true}
 use Rattle.csv.specs.Records.{fields_of}
@@ -24,3 +24,6 @@ returns-then-not-read_fields-clause-none c = λ row. false≢true (c.if-not-read
 
 pub returns-in_default-clause-none : goal.returns-in_default-clause-none
 returns-in_default-clause-none c = λ row. c.in_default.ensures.none (subst IsLinkRow (sym (c.if-not-read_fields.ensures.are refl)) row)
+
+pub returns-clause-stays : goal.returns-clause-stays
+returns-clause-stays c = grind arith

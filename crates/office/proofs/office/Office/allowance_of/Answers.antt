@@ -14,3 +14,9 @@ returns-clause-rest g c = stays_ok g.K.Keeper c.in_ok-settings.ensures.rest
 
 pub returns-then-has_begun-clause-begun : goal.returns-then-has_begun-clause-begun
 returns-then-has_begun-clause-begun g c s r p kept is = begun_anyhow p.start c.args.now c.none.result s.allowance ((c.has_begun.ensures r p is).0 c.if-has_begun.true)
+
+pub returns-clause-begun : goal.returns-clause-begun
+returns-clause-begun g c = grind arith
+
+pub returns-clause-staged : goal.returns-clause-staged
+returns-clause-staged g c = grind arith

@@ -97,3 +97,6 @@ pub returns-then-is_err-clause-crash : goal.returns-then-is_err-clause-crash
 returns-then-is_err-clause-crash g c s kept again =
     let means = c.foresee-foreseen.ensures.same s kept.means in
     adds_less (then_adds (c.foresee-foreseen.ensures.crash s kept.means (c.stage_upload.ensures.rest.honest kept.is_honest)) (c.stage_upload.ensures.crash s means kept.is_honest))
+
+pub returns-then-is_err-clause-alike : goal.returns-then-is_err-clause-alike
+returns-then-is_err-clause-alike g c = grind arith

@@ -1,7 +1,7 @@
 use Rattle.office.proofs.Judged.{inside}
 use Rattle.office.proofs.Endurance.{asked_standing}
 use Rattle.office.proofs.Unstaged.{asked_holds, failed_holds}
-use Rattle.std.proofs.Common.{refl}
+use Rattle.std.proofs.Common.{refl, arith}
 use Rattle.office.proofs.office.Office.check_moment.Goals as goal
 
 pub returns-clause-admits : goal.returns-clause-admits
@@ -20,3 +20,6 @@ returns-clause-crash g c = λ s means honest. asked_standing c.allowance_of.ensu
 
 pub returns-clause-rest : goal.returns-clause-rest
 returns-clause-rest g c = asked_holds g.K.Keeper _ _ _ c.in-Ok.ensures.rest
+
+pub returns-in_default-clause-admits : goal.returns-in_default-clause-admits
+returns-in_default-clause-admits g c = grind arith

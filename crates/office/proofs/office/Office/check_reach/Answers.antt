@@ -1,4 +1,4 @@
-use Rattle.std.proofs.Common.{◌≡◌, ◌∙◌, ℕ, List, ap, subst, sym, refl}
+use Rattle.std.proofs.Common.{◌≡◌, ◌∙◌, ℕ, List, ap, subst, sym, refl, arith}
 use Rattle.boxes.specs.Limits.{MayUse}
 use Rattle.boxes.specs.State.{Place}
 use Rattle.links.specs.Methods.{method_text}
@@ -70,3 +70,27 @@ returns-clause-crash g c = λ s means honest. asked_standing c.may_use.ensures.r
 
 pub returns-clause-rest : goal.returns-clause-rest
 returns-clause-rest g c = failed_holds g.K.Keeper _ _ _ c.in-Err.ensures.rest refl
+
+pub returns-clause-reaches : goal.returns-clause-reaches
+returns-clause-reaches g c = grind arith
+
+pub returns-clause-same : goal.returns-clause-same
+returns-clause-same g c = grind arith
+
+pub returns-clause-staged : goal.returns-clause-staged
+returns-clause-staged g c = grind arith
+
+pub returns-in-Ok-false-clause-same : goal.returns-in-Ok-false-clause-same
+returns-in-Ok-false-clause-same g c = grind arith
+
+pub returns-in-Ok-false-clause-staged : goal.returns-in-Ok-false-clause-staged
+returns-in-Ok-false-clause-staged g c = grind arith
+
+pub returns-in-Ok-true-clause-same : goal.returns-in-Ok-true-clause-same
+returns-in-Ok-true-clause-same g c = grind arith
+
+pub returns-in-Ok-true-clause-staged : goal.returns-in-Ok-true-clause-staged
+returns-in-Ok-true-clause-staged g c = grind arith
+
+pub returns-in_default-clause-reaches : goal.returns-in_default-clause-reaches
+returns-in_default-clause-reaches g c = grind arith

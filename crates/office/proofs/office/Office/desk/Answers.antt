@@ -1,4 +1,4 @@
-use Rattle.std.proofs.Common.{◌≡◌, Some, sym, subst, ◌∙◌, inl}
+use Rattle.std.proofs.Common.{◌≡◌, Some, sym, subst, ◌∙◌, inl, arith}
 use Rattle.boxes.specs.Changes.{command_of}
 use Rattle.boxes.specs.Steps.{Command}
 use Rattle.desk.specs.Lines.{said}
@@ -56,3 +56,30 @@ returns-in-Err-clause-unstaged g c = λ none. inl none
 
 pub returns-in-Err-clause-rest : goal.returns-in-Err-clause-rest
 returns-in-Err-clause-rest g c = holds_still
+
+pub returns-in-Err-clause-crash : goal.returns-in-Err-clause-crash
+returns-in-Err-clause-crash g c = grind arith
+
+pub returns-in-Err-clause-kept : goal.returns-in-Err-clause-kept
+returns-in-Err-clause-kept g c = grind arith
+
+pub returns-in-Err-clause-obeys : goal.returns-in-Err-clause-obeys
+returns-in-Err-clause-obeys g c = grind arith
+
+pub returns-in-Err-clause-store : goal.returns-in-Err-clause-store
+returns-in-Err-clause-store g c = grind arith
+
+pub returns-in-Ok-None-clause-crash : goal.returns-in-Ok-None-clause-crash
+returns-in-Ok-None-clause-crash g c = grind arith
+
+pub returns-in-Ok-None-clause-kept : goal.returns-in-Ok-None-clause-kept
+returns-in-Ok-None-clause-kept g c = grind arith
+
+pub returns-in-Ok-None-clause-obeys : goal.returns-in-Ok-None-clause-obeys
+returns-in-Ok-None-clause-obeys g c = grind arith
+
+pub returns-in-Ok-None-clause-store : goal.returns-in-Ok-None-clause-store
+returns-in-Ok-None-clause-store g c = grind arith
+
+pub returns-in-Ok-Some-clause-kept : goal.returns-in-Ok-Some-clause-kept
+returns-in-Ok-Some-clause-kept g c = grind arith

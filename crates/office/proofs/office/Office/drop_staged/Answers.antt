@@ -1,7 +1,7 @@
 use Rattle.office.proofs.Holding.{holds_still}
 use Rattle.office.proofs.Endurance.{asked_standing, still}
 use Rattle.office.proofs.KeeperCalls.{called_holds}
-use Rattle.std.proofs.Common.{inl}
+use Rattle.std.proofs.Common.{inl, arith}
 use Rattle.office.proofs.office.Office.drop_staged.Goals as goal
 
 pub returns-then-is_upload-clause-means : goal.returns-then-is_upload-clause-means
@@ -24,3 +24,12 @@ returns-else-is_upload-clause-rest g c = holds_still
 
 pub returns-else-is_upload-clause-stays : goal.returns-else-is_upload-clause-stays
 returns-else-is_upload-clause-stays g c = λ none. inl none
+
+pub returns-then-is_upload-clause-asked : goal.returns-then-is_upload-clause-asked
+returns-then-is_upload-clause-asked g c = grind arith
+
+pub returns-then-is_upload-clause-ends : goal.returns-then-is_upload-clause-ends
+returns-then-is_upload-clause-ends g c = grind arith
+
+pub returns-then-is_upload-clause-stays : goal.returns-then-is_upload-clause-stays
+returns-then-is_upload-clause-stays g c = grind arith

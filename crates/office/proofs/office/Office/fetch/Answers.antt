@@ -1,4 +1,4 @@
-use Rattle.std.proofs.Common.{◌∙◌, ap, refl}
+use Rattle.std.proofs.Common.{◌∙◌, ap, refl, arith}
 use Rattle.office.specs.Crashes.{Endures, unchanged}
 use Rattle.office.specs.Places.{place_at}
 use Rattle.office.specs.Rules.{place_of}
@@ -44,3 +44,24 @@ returns-clause-crash g c = λ s means honest. asked_standing c.look_for.ensures.
 
 pub returns-clause-rest : goal.returns-clause-rest
 returns-clause-rest g c = asked_holds g.K.Keeper _ _ _ c.in-Ok-look_for.ensures.rest
+
+pub returns-clause-staged : goal.returns-clause-staged
+returns-clause-staged g c = grind arith
+
+pub returns-in-Ok-fetch-clause-plain : goal.returns-in-Ok-fetch-clause-plain
+returns-in-Ok-fetch-clause-plain g c = grind arith
+
+pub returns-in-Ok-fetch-clause-staged : goal.returns-in-Ok-fetch-clause-staged
+returns-in-Ok-fetch-clause-staged g c = grind arith
+
+pub returns-in_default-clause-replies : goal.returns-in_default-clause-replies
+returns-in_default-clause-replies g c = grind arith
+
+pub returns-in_default-look_for-clause-replies : goal.returns-in_default-look_for-clause-replies
+returns-in_default-look_for-clause-replies g c = grind arith
+
+pub returns-in_default-look_for-clause-same : goal.returns-in_default-look_for-clause-same
+returns-in_default-look_for-clause-same g c = grind arith
+
+pub returns-in_default-look_for-clause-staged : goal.returns-in_default-look_for-clause-staged
+returns-in_default-look_for-clause-staged g c = grind arith

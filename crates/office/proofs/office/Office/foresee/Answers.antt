@@ -1,3 +1,4 @@
+use Rattle.std.proofs.Common.{arith}
 use Rattle.sigtext.specs.declared.refusal.Refusal.TheVariants as rule
 use Rattle.links.proofs.LinkRules.{method_first}
 use Rattle.links.proofs.Texts.{clash}
@@ -53,3 +54,6 @@ returns-in-Ok-clause-staged g c = c.foresee_link.ensures.staged
 
 pub returns-in-Ok-clause-rest : goal.returns-in-Ok-clause-rest
 returns-in-Ok-clause-rest g c = c.foresee_link.ensures.rest
+
+pub returns-in_default-clause-readable : goal.returns-in_default-clause-readable
+returns-in_default-clause-readable g c = grind arith

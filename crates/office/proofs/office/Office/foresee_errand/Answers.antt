@@ -1,4 +1,4 @@
-use Rattle.std.proofs.Common.{◌∙◌, ap, inl, inr}
+use Rattle.std.proofs.Common.{◌∙◌, ap, inl, inr, arith}
 use Rattle.links.specs.Methods.{method_text}
 use Rattle.office.specs.Announcing.{request_with}
 use Rattle.office.proofs.Deciding.{reaches_boxes}
@@ -78,3 +78,9 @@ returns-in-Post-clause-crash g c = c.in-Ok.ensures.crash
 
 pub returns-in-Post-clause-rest : goal.returns-in-Post-clause-rest
 returns-in-Post-clause-rest g c = answered_holds c.in-Ok.ensures.rest
+
+pub returns-in-Put-clause-same : goal.returns-in-Put-clause-same
+returns-in-Put-clause-same g c = grind arith
+
+pub returns-in-Put-clause-staged : goal.returns-in-Put-clause-staged
+returns-in-Put-clause-staged g c = grind arith

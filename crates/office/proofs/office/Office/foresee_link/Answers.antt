@@ -1,4 +1,4 @@
-use Rattle.std.proofs.Common.{refl}
+use Rattle.std.proofs.Common.{refl, arith}
 use Rattle.office.specs.Announcing.{request_with}
 use Rattle.office.proofs.Foreseen.{readable_of}
 use Rattle.office.proofs.Holding.{answered_holds, holds_less, holds_then, refused_holds}
@@ -62,3 +62,9 @@ returns-clause-same g c = λ s means. c.foresee_errand-errand.ensures.same s (c.
 
 pub returns-clause-staged : goal.returns-clause-staged
 returns-clause-staged g c = λ bytes at. c.foresee_errand-errand.ensures.staged bytes (c.identify.ensures.staged bytes at)
+
+pub returns-in-Err-clause-same : goal.returns-in-Err-clause-same
+returns-in-Err-clause-same g c = grind arith
+
+pub returns-in-Err-clause-staged : goal.returns-in-Err-clause-staged
+returns-in-Err-clause-staged g c = grind arith

@@ -1,4 +1,4 @@
-use Rattle.std.proofs.Common.{◌≡◌, ◌∙◌, ap, sym, refl}
+use Rattle.std.proofs.Common.{◌≡◌, ◌∙◌, ap, sym, refl, arith}
 use Rattle.std.specs.FinMap.{get}
 use Rattle.boxes.specs.State.{Place}
 use Rattle.boxes.proofs.Asked.{refused_at_place}
@@ -49,3 +49,15 @@ returns-in-Err-clause-crash g c = λ s means honest. asked_standing c.box_row.en
 
 pub returns-in-Err-clause-rest : goal.returns-in-Err-clause-rest
 returns-in-Err-clause-rest g c = asked_holds g.K.Keeper _ _ _ c.in-Ok-box_row.ensures.rest
+
+pub returns-in-Err-clause-staged : goal.returns-in-Err-clause-staged
+returns-in-Err-clause-staged g c = grind arith
+
+pub returns-in-Ok-place-clause-staged : goal.returns-in-Ok-place-clause-staged
+returns-in-Ok-place-clause-staged g c = grind arith
+
+pub returns-in_default-box_row-clause-comes : goal.returns-in_default-box_row-clause-comes
+returns-in_default-box_row-clause-comes g c = grind arith
+
+pub returns-in_default-clause-comes : goal.returns-in_default-clause-comes
+returns-in_default-clause-comes g c = grind arith

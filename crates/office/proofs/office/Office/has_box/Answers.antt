@@ -1,3 +1,4 @@
+use Rattle.std.proofs.Common.{arith}
 use Rattle.office.proofs.Questions.{stays_ok}
 use Rattle.office.proofs.office.Office.has_box.Goals as goal
 
@@ -6,3 +7,6 @@ returns-clause-rest g c = stays_ok g.K.Keeper c.in_ok-box_row.ensures.rest
 
 pub returns-clause-staged : goal.returns-clause-staged
 returns-clause-staged g c = c.box_row.ensures.staged
+
+pub returns-clause-value : goal.returns-clause-value
+returns-clause-value g c = grind arith

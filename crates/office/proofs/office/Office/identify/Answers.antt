@@ -1,4 +1,4 @@
-use Rattle.std.proofs.Common.{refl, subst, List, ℕ}
+use Rattle.std.proofs.Common.{refl, subst, List, ℕ, arith}
 use Rattle.boxes.specs.Rows.{key_of}
 use Rattle.links.specs.Admits.{IsSignedBy}
 use Rattle.office.proofs.Deciding.{HasKey, key_unknown, key_revoked}
@@ -66,3 +66,12 @@ returns-clause-crash g c = λ s means honest. asked_standing c.key.ensures.rest 
 
 pub returns-clause-rest : goal.returns-clause-rest
 returns-clause-rest g c = failed_holds g.K.Keeper _ _ _ c.in-Err.ensures.rest refl
+
+pub returns-clause-identifies : goal.returns-clause-identifies
+returns-clause-identifies g c = grind arith
+
+pub returns-in-Ok-Some-clause-staged : goal.returns-in-Ok-Some-clause-staged
+returns-in-Ok-Some-clause-staged g c = grind arith
+
+pub returns-in-Ok-clause-staged : goal.returns-in-Ok-clause-staged
+returns-in-Ok-clause-staged g c = grind arith

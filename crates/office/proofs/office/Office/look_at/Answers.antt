@@ -1,3 +1,4 @@
+use Rattle.std.proofs.Common.{arith}
 use Rattle.office.proofs.Questions.{stays_still}
 use Rattle.office.proofs.office.Office.look_at.Goals as goal
 
@@ -42,3 +43,24 @@ returns-in-SetAllowance-clause-staged g c = λ bytes at. at
 
 pub returns-in-SetAllowance-clause-rest : goal.returns-in-SetAllowance-clause-rest
 returns-in-SetAllowance-clause-rest g c = stays_still g.K.Keeper
+
+pub returns-in-AddBox-clause-view : goal.returns-in-AddBox-clause-view
+returns-in-AddBox-clause-view g c = grind arith
+
+pub returns-in-AddKey-clause-view : goal.returns-in-AddKey-clause-view
+returns-in-AddKey-clause-view g c = grind arith
+
+pub returns-in-CloseBox-clause-view : goal.returns-in-CloseBox-clause-view
+returns-in-CloseBox-clause-view g c = grind arith
+
+pub returns-in-DropFile-clause-view : goal.returns-in-DropFile-clause-view
+returns-in-DropFile-clause-view g c = grind arith
+
+pub returns-in-LimitKey-clause-view : goal.returns-in-LimitKey-clause-view
+returns-in-LimitKey-clause-view g c = grind arith
+
+pub returns-in-RevokeKey-clause-view : goal.returns-in-RevokeKey-clause-view
+returns-in-RevokeKey-clause-view g c = grind arith
+
+pub returns-in-SetAllowance-clause-view : goal.returns-in-SetAllowance-clause-view
+returns-in-SetAllowance-clause-view g c = grind arith

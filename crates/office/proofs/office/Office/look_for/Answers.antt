@@ -1,3 +1,4 @@
+use Rattle.std.proofs.Common.{arith}
 use Rattle.office.proofs.Questions.{stays_ok, stays_then, stays_passed}
 use Rattle.office.proofs.office.Office.look_for.Goals as goal
 
@@ -13,3 +14,9 @@ returns-clause-view g c s kept =
       in_box = c.in_ok-in_box.ensures.value s kept.means kept.sound (c.in_ok-file.ensures.rest.honest kept.is_honest);
       file = c.in_ok-file.ensures.value s (c.in_ok-in_box.ensures.rest.same s kept.means) kept.sound kept.is_honest;
     }
+
+pub returns-clause-staged : goal.returns-clause-staged
+returns-clause-staged g c = grind arith
+
+pub returns-in_err-file-clause-staged : goal.returns-in_err-file-clause-staged
+returns-in_err-file-clause-staged g c = grind arith

@@ -1,4 +1,4 @@
-use Rattle.std.proofs.Common.{◌≡◌, ◌∙◌, Result, Err, Ok, ap, inl, rules}
+use Rattle.std.proofs.Common.{◌≡◌, ◌∙◌, Result, Err, Ok, ap, inl, rules, arith}
 use Rattle.keeper.specs.declared.keep.KeepFault.{KeepFault}
 use Rattle.keeper.specs.declared.keep.KeepFault.TheVariants.{Full}
 use Rattle.office.specs.declared.requests.commanding.DeskFault.{DeskFault}
@@ -75,3 +75,72 @@ returns-clause-same g c = λ s means. c.in-Err-apply.ensures.same s (c.look_at.e
 
 pub returns-in-Ok-apply-clause-unstaged : goal.returns-in-Ok-apply-clause-unstaged
 returns-in-Ok-apply-clause-unstaged g c = λ none. inl (c.in-Ok-apply.ensures.staged (λ is. is) _ (c.look_at.ensures.staged _ none))
+
+pub returns-clause-formed : goal.returns-clause-formed
+returns-clause-formed g c = grind arith
+
+pub returns-clause-kept : goal.returns-clause-kept
+returns-clause-kept g c = grind arith
+
+pub returns-clause-refused : goal.returns-clause-refused
+returns-clause-refused g c = grind arith
+
+pub returns-clause-store : goal.returns-clause-store
+returns-clause-store g c = grind arith
+
+pub returns-clause-unstaged : goal.returns-clause-unstaged
+returns-clause-unstaged g c = grind arith
+
+pub returns-in-Err-clause-crash : goal.returns-in-Err-clause-crash
+returns-in-Err-clause-crash g c = grind arith
+
+pub returns-in-Err-clause-formed : goal.returns-in-Err-clause-formed
+returns-in-Err-clause-formed g c = grind arith
+
+pub returns-in-Err-clause-refused : goal.returns-in-Err-clause-refused
+returns-in-Err-clause-refused g c = grind arith
+
+pub returns-in-Err-clause-room : goal.returns-in-Err-clause-room
+returns-in-Err-clause-room g c = grind arith
+
+pub returns-in-Err-clause-store : goal.returns-in-Err-clause-store
+returns-in-Err-clause-store g c = grind arith
+
+pub returns-in-Ok-apply-clause-formed : goal.returns-in-Ok-apply-clause-formed
+returns-in-Ok-apply-clause-formed g c = grind arith
+
+pub returns-in-Ok-apply-clause-refused : goal.returns-in-Ok-apply-clause-refused
+returns-in-Ok-apply-clause-refused g c = grind arith
+
+pub returns-in-Ok-apply-clause-room : goal.returns-in-Ok-apply-clause-room
+returns-in-Ok-apply-clause-room g c = grind arith
+
+pub returns-in-Ok-apply-clause-store : goal.returns-in-Ok-apply-clause-store
+returns-in-Ok-apply-clause-store g c = grind arith
+
+pub returns-then-is_err-clause-crash : goal.returns-then-is_err-clause-crash
+returns-then-is_err-clause-crash g c = grind arith
+
+pub returns-then-is_err-clause-formed : goal.returns-then-is_err-clause-formed
+returns-then-is_err-clause-formed g c = grind arith
+
+pub returns-then-is_err-clause-kept : goal.returns-then-is_err-clause-kept
+returns-then-is_err-clause-kept g c = grind arith
+
+pub returns-then-is_err-clause-refused : goal.returns-then-is_err-clause-refused
+returns-then-is_err-clause-refused g c = grind arith
+
+pub returns-then-is_err-clause-rest : goal.returns-then-is_err-clause-rest
+returns-then-is_err-clause-rest g c = grind arith
+
+pub returns-then-is_err-clause-room : goal.returns-then-is_err-clause-room
+returns-then-is_err-clause-room g c = grind arith
+
+pub returns-then-is_err-clause-same : goal.returns-then-is_err-clause-same
+returns-then-is_err-clause-same g c = grind arith
+
+pub returns-then-is_err-clause-store : goal.returns-then-is_err-clause-store
+returns-then-is_err-clause-store g c = grind arith
+
+pub returns-then-is_err-clause-unstaged : goal.returns-then-is_err-clause-unstaged
+returns-then-is_err-clause-unstaged g c = grind arith

@@ -1,4 +1,4 @@
-use Rattle.std.proofs.Common.{◌∙◌, codes, sym, subst, rules, inl, refl}
+use Rattle.std.proofs.Common.{◌∙◌, codes, sym, subst, rules, inl, refl, arith}
 use Rattle.sigtext.specs.declared.refusal.Refusal.TheVariants as rule
 use Rattle.links.specs.WellFormed.{HasValue}
 use Rattle.links.proofs.Texts.{texts_differ, texts_equal}
@@ -123,3 +123,18 @@ returns-clause-same g c = c.in-Err-Kept.ensures.same
 
 pub returns-clause-rest : goal.returns-clause-rest
 returns-clause-rest g c = holds_less (λ _. refl) c.in-Err-Kept.ensures.rest
+
+pub returns-clause-replies : goal.returns-clause-replies
+returns-clause-replies g c = grind arith
+
+pub returns-in-Err-clause-replies : goal.returns-in-Err-clause-replies
+returns-in-Err-clause-replies g c = grind arith
+
+pub returns-in-Ok-desk-clause-crash : goal.returns-in-Ok-desk-clause-crash
+returns-in-Ok-desk-clause-crash g c = grind arith
+
+pub returns-in-Ok-desk-clause-plain : goal.returns-in-Ok-desk-clause-plain
+returns-in-Ok-desk-clause-plain g c = grind arith
+
+pub returns-in_default-clause-replies : goal.returns-in_default-clause-replies
+returns-in_default-clause-replies g c = grind arith

@@ -1,3 +1,4 @@
+use Rattle.std.proofs.Common.{arith}
 use Rattle.office.proofs.Holding.{holds_still}
 use Rattle.office.proofs.Endurance.{still}
 use Rattle.office.proofs.office.Office.receive.Goals as goal
@@ -77,3 +78,9 @@ returns-else-is_upload-clause-gave_up g c = λ is. absurd (c.pass_over.ensures.t
 
 pub returns-else-is_upload-clause-counts : goal.returns-else-is_upload-clause-counts
 returns-else-is_upload-clause-counts g c = λ is. absurd (c.pass_over.ensures.takes_all is)
+
+pub returns-else-is_upload-clause-staged : goal.returns-else-is_upload-clause-staged
+returns-else-is_upload-clause-staged g c = grind arith
+
+pub returns-then-is_upload-clause-passed : goal.returns-then-is_upload-clause-passed
+returns-then-is_upload-clause-passed g c = grind arith

@@ -1,4 +1,4 @@
-use Rattle.std.proofs.Common.{Err, ap, inl, inr, subst, sym}
+use Rattle.std.proofs.Common.{Err, ap, inl, inr, subst, sym, arith}
 use Rattle.sigtext.specs.declared.refusal.Refusal.TheVariants as rule
 use Rattle.office.specs.Foreseeing.{Foresees, IsReadOf, IsUpload}
 use Rattle.office.proofs.Endurance.{refused_same, still}
@@ -39,3 +39,6 @@ returns-in-Ok-clause-given_up g c given = absurd (ok_no_err c.in-Ok.prospect rul
 
 pub returns-in-Err-clause-given_up : goal.returns-in-Err-clause-given_up
 returns-in-Err-clause-given_up g c given = ap Err (err_is c.in-Err.refusal rule.TryAgain c.args.foreseen c.in-Err.is given)
+
+pub returns-in-Err-clause-rest : goal.returns-in-Err-clause-rest
+returns-in-Err-clause-rest g c = grind arith

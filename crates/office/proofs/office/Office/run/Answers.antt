@@ -60,3 +60,6 @@ returns-clause-unstaged g c = c.connections.invariant.5
 
 pub offset_bounds-connections-connection-index : goal.offset_bounds-connections-connection-index
 offset_bounds-connections-connection-index g c = search scaled_Fits
+
+pub overflow_add-faulty : goal.overflow_add-faulty
+overflow_add-faulty g c = grind arith

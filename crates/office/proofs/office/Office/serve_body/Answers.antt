@@ -1,4 +1,4 @@
-use Rattle.std.proofs.Common.{◌≡◌, ℕ, refl, subst, sym}
+use Rattle.std.proofs.Common.{◌≡◌, ℕ, refl, subst, sym, arith}
 use Rattle.std.specs.Prelude.{IsSomeAnd, OnErr}
 use Rattle.sigtext.specs.Counts.{Rose}
 use Rattle.office.specs.Connections.{MayGiveUp}
@@ -109,3 +109,24 @@ returns-in-Broken-clause-rest g c =
 pub returns-in-GaveUp-clause-rest : goal.returns-in-GaveUp-clause-rest
 returns-in-GaveUp-clause-rest g c = let may = closed_again g.K.Keeper c.args.self.now.keeper c.drop_staged-in-GaveUp.new.self.keeper _ _ c.close.result c.close.ensures.closed in
     then_holds c.in-GaveUp.ensures.rest c.drop_staged-in-GaveUp.ensures.rest (λ not _. not may) (λ not _. not may)
+
+pub returns-in-Broken-clause-faults : goal.returns-in-Broken-clause-faults
+returns-in-Broken-clause-faults g c = grind arith
+
+pub returns-in-Broken-clause-same : goal.returns-in-Broken-clause-same
+returns-in-Broken-clause-same g c = grind arith
+
+pub returns-in-GaveUp-clause-faults : goal.returns-in-GaveUp-clause-faults
+returns-in-GaveUp-clause-faults g c = grind arith
+
+pub returns-in-GaveUp-clause-same : goal.returns-in-GaveUp-clause-same
+returns-in-GaveUp-clause-same g c = grind arith
+
+pub returns-in-GaveUp-clause-unstaged : goal.returns-in-GaveUp-clause-unstaged
+returns-in-GaveUp-clause-unstaged g c = grind arith
+
+pub returns-in-Lacking-clause-faults : goal.returns-in-Lacking-clause-faults
+returns-in-Lacking-clause-faults g c = grind arith
+
+pub returns-in-Lacking-clause-same : goal.returns-in-Lacking-clause-same
+returns-in-Lacking-clause-same g c = grind arith

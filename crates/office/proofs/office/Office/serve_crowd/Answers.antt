@@ -109,3 +109,15 @@ turns-preserved g c =
         | else-turned w ↦ omega (arith, j.4, w.faulty-is, c.in-Some.ensures.counts)
       ],
     )
+
+pub returns-clause-never_less : goal.returns-clause-never_less
+returns-clause-never_less g c = grind arith
+
+pub returns-clause-over : goal.returns-clause-over
+returns-clause-over g c = grind arith
+
+pub turn_at-turned-requires : goal.turn_at-turned-requires
+turn_at-turned-requires g c = grind arith
+
+pub turns-smaller : goal.turns-smaller
+turns-smaller g c = grind arith

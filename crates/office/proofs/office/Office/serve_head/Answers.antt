@@ -1,5 +1,6 @@
 use Rattle.std.proofs.lemmas.Bool.{both_ways}
-use Rattle.std.proofs.Common.{◌≡◌, ◌∙◌, List, ℕ, [], ap, map, subst, take, inl}
+use Rattle.std.proofs.Common.{◌≡◌, ◌∙◌, List, ℕ, [], ap, map, subst, take, inl, arith}
+use Rattle.std.proofs.lemmas.Grind.{common_steps}
 use Rattle.sigtext.specs.Fields.{header_of}
 use Rattle.sigtext.specs.Request.{Request}
 use Rattle.wire.specs.Feeds.{left, reader_of}
@@ -73,3 +74,18 @@ returns-then-is_given_up-clause-rest g c = holds_less (λ _. closed_again g.K.Ke
 
 pub returns-clause-unstaged : goal.returns-clause-unstaged
 returns-clause-unstaged g c = λ none. ends_later g.K.Keeper _ _ _ c.foresee-foreseen.ensures.rest.never_less (c.serve_body.ensures.unstaged (c.foresee-foreseen.ensures.staged _ none))
+
+pub returns-clause-faults : goal.returns-clause-faults
+returns-clause-faults g c = grind arith
+
+pub returns-clause-goes_on : goal.returns-clause-goes_on
+returns-clause-goes_on g c = grind arith
+
+pub returns-clause-same : goal.returns-clause-same
+returns-clause-same g c = grind arith
+
+pub returns-then-is_given_up-clause-faults : goal.returns-then-is_given_up-clause-faults
+returns-then-is_given_up-clause-faults g c = grind (arith, common_steps)
+
+pub returns-then-is_given_up-clause-same : goal.returns-then-is_given_up-clause-same
+returns-then-is_given_up-clause-same g c = grind arith

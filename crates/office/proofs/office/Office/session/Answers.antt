@@ -1,4 +1,4 @@
-use Rattle.std.proofs.Common.{◌≡◌, ◌∙◌, List, ℕ, Option, ap, subst, sym}
+use Rattle.std.proofs.Common.{◌≡◌, ◌∙◌, List, ℕ, Option, ap, subst, sym, arith}
 use Rattle.wire.specs.Feeds.{left, reader_of, waits_in}
 use Rattle.office.specs.Connections.{Serves, TellsFaults}
 use Rattle.office.specs.Sessions.{most_messages}
@@ -27,3 +27,12 @@ returns-clause-faults g c =
     sym (c.reader-1.given.1 (sym (c.into_reader.ensures.same ∙ c.serve_feed-end.ensures.same ∙ c.new-feed.ensures.same)) ∙ c.into_reader.ensures.now) in
     subst (λ r. TellsFaults c.serve_feed-end.result r c.reader-1.given.0 c.args.writer.now c.serve_feed-end.new.writer) c.new-feed.ensures.reader
     (subst (λ r. TellsFaults c.serve_feed-end.result (reader_of c.new-feed.result) r c.args.writer.now c.serve_feed-end.new.writer) last c.serve_feed-end.ensures.faults)
+
+pub returns-clause-rest : goal.returns-clause-rest
+returns-clause-rest g c = grind arith
+
+pub returns-clause-unstaged : goal.returns-clause-unstaged
+returns-clause-unstaged g c = grind arith
+
+pub serve_feed-end-requires : goal.serve_feed-end-requires
+serve_feed-end-requires g c = grind arith

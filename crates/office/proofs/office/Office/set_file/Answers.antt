@@ -1,4 +1,4 @@
-use Rattle.std.proofs.Common.{inl, inr, Err, Ok, refl}
+use Rattle.std.proofs.Common.{inl, inr, Err, Ok, refl, arith}
 use Rattle.boxes.specs.declared.change.Change.TheVariants as change
 use Rattle.office.specs.Crashes.{changed}
 use Rattle.office.proofs.Holding.{holds_less}
@@ -31,3 +31,9 @@ returns-in-Err-clause-rest g c = holds_less (λ _. refl) (changed_holds {T = Uni
 
 pub returns-in-Err-clause-same : goal.returns-in-Err-clause-same
 returns-in-Err-clause-same g c = c.in-Err.ensures.same
+
+pub returns-in-Err-clause-sets : goal.returns-in-Err-clause-sets
+returns-in-Err-clause-sets g c = grind arith
+
+pub returns-in-Ok-clause-crash : goal.returns-in-Ok-clause-crash
+returns-in-Ok-clause-crash g c = grind arith

@@ -1,4 +1,4 @@
-use Rattle.std.proofs.Common.{[], Ok, ap, refl, subst, sym, ◌∙◌, ◌++◌}
+use Rattle.std.proofs.Common.{[], Ok, ap, refl, subst, sym, ◌∙◌, ◌++◌, arith}
 use Rattle.wire.specs.Feeds.{reader_of}
 use Rattle.wire.proofs.Skips.{counts_none, lacks}
 use Rattle.sigv4.specs.Hashers.{ShaHolds}
@@ -218,3 +218,18 @@ pub returns-in-Err-clause-fault : goal.returns-in-Err-clause-fault
 returns-in-Err-clause-fault g c = λ _.
     subst (λ n. Rose n c.piece.follows.lender-at-none.reader.now.faults) c.pieces.invariant.count
     (broken_rose c.args.feed.now c.pieces.feed c.piece.follows.lender-at-none c.pieces.self.keeper c.pieces.sha c.piece.result c.in-Err.field-0 c.pieces.feed.reader.now.faults _ c.pieces.invariant.staged c.in-Err.is c.piece.follows.holds-at-none.1 c.piece.follows.holds-at-none.2)
+
+pub pieces-smaller : goal.pieces-smaller
+pieces-smaller g c = grind arith
+
+pub returns-in-Err-clause-same : goal.returns-in-Err-clause-same
+returns-in-Err-clause-same g c = grind arith
+
+pub returns-in-Ok-Done-clause-same : goal.returns-in-Ok-Done-clause-same
+returns-in-Ok-Done-clause-same g c = grind arith
+
+pub returns-in-Ok-Refused-clause-same : goal.returns-in-Ok-Refused-clause-same
+returns-in-Ok-Refused-clause-same g c = grind arith
+
+pub returns-then-is_err-2-clause-same : goal.returns-then-is_err-2-clause-same
+returns-then-is_err-2-clause-same g c = grind arith

@@ -1,3 +1,4 @@
+use Rattle.std.proofs.Common.{arith}
 use Rattle.office.proofs.KeeperCalls.{on_err_too}
 use Rattle.links.proofs.WrittenBytes.{are_bytes}
 use Rattle.office.proofs.Holding.{holds_still}
@@ -33,3 +34,24 @@ returns-then-is_err-clause-asked g c = on_err_too c.stage_whole-staged.result c.
 
 pub returns-else-is_err-clause-asked : goal.returns-else-is_err-clause-asked
 returns-else-is_err-clause-asked g c = on_err_too c.stage_whole-staged.result c.if-not-is_upload.false
+
+pub returns-else-is_err-clause-passed : goal.returns-else-is_err-clause-passed
+returns-else-is_err-clause-passed g c = grind arith
+
+pub returns-then-is_err-clause-fault : goal.returns-then-is_err-clause-fault
+returns-then-is_err-clause-fault g c = grind arith
+
+pub returns-then-is_err-clause-passed : goal.returns-then-is_err-clause-passed
+returns-then-is_err-clause-passed g c = grind arith
+
+pub returns-then-is_err-clause-rest : goal.returns-then-is_err-clause-rest
+returns-then-is_err-clause-rest g c = grind arith
+
+pub returns-then-is_err-clause-same : goal.returns-then-is_err-clause-same
+returns-then-is_err-clause-same g c = grind arith
+
+pub returns-then-is_err-clause-staged : goal.returns-then-is_err-clause-staged
+returns-then-is_err-clause-staged g c = grind arith
+
+pub returns-then-not-is_upload-clause-staged : goal.returns-then-not-is_upload-clause-staged
+returns-then-not-is_upload-clause-staged g c = grind arith

@@ -1,5 +1,6 @@
-use Rattle.std.proofs.Common.{◌≡◌, ◌<◌, ◌-◌, ◌++◌, [], List, ℕ, take, length, ap, refl, rules, subst, sym, ◌∙◌}
+use Rattle.std.proofs.Common.{◌≡◌, ◌<◌, ◌-◌, ◌++◌, [], List, ℕ, take, length, ap, refl, rules, subst, sym, ◌∙◌, arith}
 use Rattle.std.proofs.lemmas.List.{append-nil, append_assoc, take-append-drop, nil_from_length}
+use Rattle.std.proofs.lemmas.Grind.{common_steps}
 use Rattle.office.proofs.Endurance.{asked_standing, then_adds}
 use Rattle.office.proofs.Foreseen.{failed_is, whatever_err}
 use Rattle.office.proofs.Unstaged.{asked_holds, asked_nothing, failed_holds, rose_later, then_holds}
@@ -69,3 +70,15 @@ returns-clause-crash g c s m h = c.pieces.invariant.3 s m h
 
 pub returns-clause-rest : goal.returns-clause-rest
 returns-clause-rest g c = then_holds c.pieces.invariant.1 (asked_nothing g.K.Keeper c.pieces.self.keeper) (λ not none. none) (λ not none. none)
+
+pub returns-in_err-stage_begin-clause-crash : goal.returns-in_err-stage_begin-clause-crash
+returns-in_err-stage_begin-clause-crash g c = grind (arith, common_steps)
+
+pub returns-in_err-stage_begin-clause-rest : goal.returns-in_err-stage_begin-clause-rest
+returns-in_err-stage_begin-clause-rest g c = grind (arith, common_steps)
+
+pub stage-requires-clause-short : goal.stage-requires-clause-short
+stage-requires-clause-short g c = grind arith
+
+pub stage-requires-clause-some : goal.stage-requires-clause-some
+stage-requires-clause-some g c = grind arith

@@ -1,5 +1,6 @@
 use Rattle.office.proofs.Handlings.{closed_faults, tells_from}
-use Rattle.std.proofs.Common.{[], false, inl, refl, true}
+use Rattle.std.proofs.Common.{[], false, inl, refl, true, arith}
+use Rattle.std.proofs.lemmas.Grind.{common_steps}
 use Rattle.wire.specs.Feeds.{left, place_of, reader_of}
 use Rattle.wire.specs.declared.fault.WireFault.TheVariants as fault
 use Rattle.wire.specs.declared.joining.Came.TheVariants as came
@@ -98,3 +99,42 @@ returns-in-Err-Memory-clause-faults g c =
 
 pub returns-in-Ok-Refused-clause-faults : goal.returns-in-Ok-Refused-clause-faults
 returns-in-Ok-Refused-clause-faults g c = closed_faults c.close.result (reader_of c.args.feed.now) (reader_of c.read_opening.new.feed) c.args.writer.now c.close.new.writer c.in-Ok-Refused.ensures.count c.close.ensures.end c.close.ensures.fault c.close.ensures.clean
+
+pub returns-in-Err-Memory-clause-same : goal.returns-in-Err-Memory-clause-same
+returns-in-Err-Memory-clause-same g c = grind arith
+
+pub returns-in-Err-Read-clause-faults : goal.returns-in-Err-Read-clause-faults
+returns-in-Err-Read-clause-faults g c = grind (arith, common_steps)
+
+pub returns-in-Err-Read-clause-same : goal.returns-in-Err-Read-clause-same
+returns-in-Err-Read-clause-same g c = grind arith
+
+pub returns-in-Ok-End-clause-faults : goal.returns-in-Ok-End-clause-faults
+returns-in-Ok-End-clause-faults g c = grind arith
+
+pub returns-in-Ok-End-clause-same : goal.returns-in-Ok-End-clause-same
+returns-in-Ok-End-clause-same g c = grind arith
+
+pub returns-in-Ok-Head-clause-goes_on : goal.returns-in-Ok-Head-clause-goes_on
+returns-in-Ok-Head-clause-goes_on g c = grind arith
+
+pub returns-in-Ok-Head-clause-same : goal.returns-in-Ok-Head-clause-same
+returns-in-Ok-Head-clause-same g c = grind arith
+
+pub returns-in-Ok-Refused-clause-same : goal.returns-in-Ok-Refused-clause-same
+returns-in-Ok-Refused-clause-same g c = grind arith
+
+pub returns-in-Ok-Truncated-clause-faults : goal.returns-in-Ok-Truncated-clause-faults
+returns-in-Ok-Truncated-clause-faults g c = grind arith
+
+pub returns-in-Ok-Truncated-clause-same : goal.returns-in-Ok-Truncated-clause-same
+returns-in-Ok-Truncated-clause-same g c = grind arith
+
+pub serve_head-requires-clause-open : goal.serve_head-requires-clause-open
+serve_head-requires-clause-open g c = grind arith
+
+pub serve_head-requires-clause-parts : goal.serve_head-requires-clause-parts
+serve_head-requires-clause-parts g c = grind arith
+
+pub unreachable-requires : goal.unreachable-requires
+unreachable-requires g c = grind arith

@@ -1,5 +1,5 @@
 use Rattle.office.specs.Stepping.{TellsStep}
-use Rattle.std.proofs.Common.{◌≡◌, ◌∙◌, ap, inr, sym, subst}
+use Rattle.std.proofs.Common.{◌≡◌, ◌∙◌, ap, inr, sym, subst, arith}
 use Rattle.std.specs.Io.KnownBytes.{prepend_known}
 use Rattle.wire.specs.Feeds.{ahead_of, left, place_of, reader_of, stood_at}
 use Rattle.seats.proofs.Begins.{resumed_between}
@@ -28,3 +28,6 @@ returns-clause-faults g c =
     sym (c.reader-1.given.1 (sym (c.into_reader.ensures.same ∙ c.set_aside-aside.ensures.same ∙ c.step-end.ensures.same ∙ c.resume-feed.ensures.same)) ∙ c.into_reader.ensures.now ∙ c.set_aside-aside.ensures.reader) in
     subst (λ r. TellsStep c.step-end.result r c.reader-1.given.0 c.args.writer.now c.step-end.new.writer) c.resume-feed.ensures.reader
     (subst (λ r. TellsStep c.step-end.result (reader_of c.resume-feed.result) r c.args.writer.now c.step-end.new.writer) last c.step-end.ensures.faults)
+
+pub returns-clause-rest : goal.returns-clause-rest
+returns-clause-rest g c = grind arith

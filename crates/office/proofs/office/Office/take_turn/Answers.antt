@@ -79,3 +79,12 @@ returns-in-None-clause-faults g c =
 pub returns-in-Some-clause-faults : goal.returns-in-Some-clause-faults
 returns-in-Some-clause-faults g c =
     turn_tells c.args.seat.now _ c.step_aside-aside.result.end (none_of c.args.seat.now.end (sym c.is_some.ensures ∙ c.if-is_some.false)) (sym c.in-Some.is) c.step_aside-aside.ensures.faults
+
+pub invariant_of-seat : goal.invariant_of-seat
+invariant_of-seat g c = grind arith
+
+pub returns-then-is_some-clause-faults : goal.returns-then-is_some-clause-faults
+returns-then-is_some-clause-faults g c = grind arith
+
+pub step_aside-aside-requires : goal.step_aside-aside-requires
+step_aside-aside-requires g c = grind arith

@@ -1,4 +1,4 @@
-use Rattle.std.proofs.Common.{◌≡◌, ◌∙◌, None, rules, false, Some, Option, refl, sym, ap, subst}
+use Rattle.std.proofs.Common.{◌≡◌, ◌∙◌, None, rules, false, Some, Option, refl, sym, ap, subst, arith}
 use Rattle.std.specs.Prelude.{is_some, not}
 use Rattle.office.specs.Crowds.{TurnsSlot, nobody, fails_now, is_fault_end}
 use Rattle.seats.specs.declared.seat.Seat.{Seat}
@@ -30,3 +30,9 @@ returns-clause-turns g c s kept =
       taken_by g.R.Read.remaining g.W.Write.contents g.C.Clock.now_gives g.K.Keeper c.args.clock.now c.take_turn-spare.new.clock c.args.self.now.keeper c.take_turn-spare.new.self.keeper s h.0
           c.args.slot.now c.if-was_open.slot c.if-was_open.result c.in-Some.seat c.take_turn-spare.new.seat c.in-Some.is slot told h.2 c.take_turn-spare.ensures.faults,
     )
+
+pub returns-clause-honest : goal.returns-clause-honest
+returns-clause-honest g c = grind arith
+
+pub returns-in_default-clause-unstaged : goal.returns-in_default-clause-unstaged
+returns-in_default-clause-unstaged g c = grind arith

@@ -1,3 +1,4 @@
+use Rattle.std.proofs.Common.{arith}
 use Rattle.office.proofs.Questions.{stays_ok, stays_then}
 use Rattle.office.proofs.office.Office.view_clerks.Goals as goal
 
@@ -6,3 +7,6 @@ returns-clause-rest g c = stays_then g.K.Keeper c.in_ok-key.ensures.rest (stays_
 
 pub returns-clause-staged : goal.returns-clause-staged
 returns-clause-staged g c = λ bytes at. c.clerks.ensures.staged bytes (c.key.ensures.staged bytes at)
+
+pub returns-clause-view : goal.returns-clause-view
+returns-clause-view g c = grind arith

@@ -1,3 +1,4 @@
+use Rattle.std.proofs.Common.{arith}
 use Rattle.office.proofs.Questions.{stays_ok}
 use Rattle.office.proofs.office.Office.view_file.Goals as goal
 
@@ -6,3 +7,6 @@ returns-clause-rest g c = stays_ok g.K.Keeper c.in_ok-file.ensures.rest
 
 pub returns-clause-staged : goal.returns-clause-staged
 returns-clause-staged g c = c.file.ensures.staged
+
+pub returns-clause-view : goal.returns-clause-view
+returns-clause-view g c = grind arith

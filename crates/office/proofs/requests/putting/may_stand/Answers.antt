@@ -1,4 +1,4 @@
-use Rattle.std.proofs.Common.{◌∙◌, Option, sym, subst}
+use Rattle.std.proofs.Common.{◌∙◌, Option, sym, subst, arith}
 use Rattle.boxes.specs.declared.rows.ReceiptRow.{ReceiptRow}
 use Rattle.boxes.specs.Views.{IsReceiptAt}
 use Rattle.office.proofs.Staged.{its_receipt, digests_same}
@@ -13,3 +13,6 @@ pub returns-else-receipt-body : goal.returns-else-receipt-body
 returns-else-receipt-body c s u sound at long digest stands =
     let x = its_receipt s u c.in-Some.receipt sound (subst (λ (o : Option ReceiptRow). IsReceiptAt s u.place o) c.in-Some.is at) stands in
     absurd (c.if-receipt-body.false (x.0 ∙ sym long))
+
+pub returns-in-None : goal.returns-in-None
+returns-in-None c = grind arith

@@ -1,4 +1,4 @@
-use Rattle.std.proofs.Common.{ℕ, List, map, refl, sym, subst}
+use Rattle.std.proofs.Common.{ℕ, List, map, refl, sym, subst, arith}
 use Rattle.sigtext.specs.Rules.{IsFirstToFail}
 use Rattle.sigtext.specs.Fields.{header_of}
 use Rattle.links.specs.LinkReadings.{IsAskedBy}
@@ -38,3 +38,6 @@ returns-in-Ok-clause-readable c =
       target = read.is_target;
       named = named again (request_with c.args.message.now body) (asked body) read.read.path read.read.params read.is_target;
     }) c.inspect.ensures.named
+
+pub returns-in-Err-clause-readable : goal.returns-in-Err-clause-readable
+returns-in-Err-clause-readable c = grind arith

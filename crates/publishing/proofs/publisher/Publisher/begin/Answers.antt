@@ -1,4 +1,4 @@
-use Rattle.std.proofs.Common.{Some, subst, sym}
+use Rattle.std.proofs.Common.{Some, subst, sym, arith}
 use Rattle.std.proofs.lemmas.Bool.{both_ways}
 use Rattle.publishing.specs.Published.{IsBegun, IsPublished}
 use Rattle.publishing.proofs.Begun.{begun_blank, begun_put, published_put}
@@ -23,3 +23,63 @@ returns-in-Ok-clause-means g c = λ s means blank. (
         λ whole. published_put s _ _ _ blank published (c.put.ensures.added whole),
       ),
 )
+
+pub returns-in-Err-clause-honest : goal.returns-in-Err-clause-honest
+returns-in-Err-clause-honest g c = grind arith
+
+pub returns-in-Err-clause-leaves : goal.returns-in-Err-clause-leaves
+returns-in-Err-clause-leaves g c = grind arith
+
+pub returns-in-Err-clause-meant : goal.returns-in-Err-clause-meant
+returns-in-Err-clause-meant g c = grind arith
+
+pub returns-in-Err-clause-never_less : goal.returns-in-Err-clause-never_less
+returns-in-Err-clause-never_less g c = grind arith
+
+pub returns-in-Err-clause-opened : goal.returns-in-Err-clause-opened
+returns-in-Err-clause-opened g c = grind arith
+
+pub returns-in-Err-clause-staged : goal.returns-in-Err-clause-staged
+returns-in-Err-clause-staged g c = grind arith
+
+pub returns-in-Err-clause-stages : goal.returns-in-Err-clause-stages
+returns-in-Err-clause-stages g c = grind arith
+
+pub returns-in-Err-clause-stays : goal.returns-in-Err-clause-stays
+returns-in-Err-clause-stays g c = grind arith
+
+pub returns-in-Err-clause-store : goal.returns-in-Err-clause-store
+returns-in-Err-clause-store g c = grind arith
+
+pub returns-in-Err-clause-whole : goal.returns-in-Err-clause-whole
+returns-in-Err-clause-whole g c = grind arith
+
+pub returns-in-Ok-clause-honest : goal.returns-in-Ok-clause-honest
+returns-in-Ok-clause-honest g c = grind arith
+
+pub returns-in-Ok-clause-leaves : goal.returns-in-Ok-clause-leaves
+returns-in-Ok-clause-leaves g c = grind arith
+
+pub returns-in-Ok-clause-meant : goal.returns-in-Ok-clause-meant
+returns-in-Ok-clause-meant g c = grind arith
+
+pub returns-in-Ok-clause-never_less : goal.returns-in-Ok-clause-never_less
+returns-in-Ok-clause-never_less g c = grind arith
+
+pub returns-in-Ok-clause-opened : goal.returns-in-Ok-clause-opened
+returns-in-Ok-clause-opened g c = grind arith
+
+pub returns-in-Ok-clause-staged : goal.returns-in-Ok-clause-staged
+returns-in-Ok-clause-staged g c = grind arith
+
+pub returns-in-Ok-clause-stages : goal.returns-in-Ok-clause-stages
+returns-in-Ok-clause-stages g c = grind arith
+
+pub returns-in-Ok-clause-stays : goal.returns-in-Ok-clause-stays
+returns-in-Ok-clause-stays g c = grind arith
+
+pub returns-in-Ok-clause-store : goal.returns-in-Ok-clause-store
+returns-in-Ok-clause-store g c = grind arith
+
+pub returns-in-Ok-clause-whole : goal.returns-in-Ok-clause-whole
+returns-in-Ok-clause-whole g c = grind arith

@@ -1,4 +1,4 @@
-use Rattle.std.proofs.Common.{subst, sym}
+use Rattle.std.proofs.Common.{subst, sym, arith}
 use Rattle.publishing.proofs.Added.{may_change, on_err_more, on_ok_more}
 use Rattle.publishing.proofs.publishes.PublisherKeeper.apply.Goals as goal
 
@@ -36,3 +36,54 @@ returns-else-is_ok-clause-first g c = λ s after m sound is. c.apply-done.ensure
 pub returns-else-is_ok-clause-crash : goal.returns-else-is_ok-clause-crash
 returns-else-is_ok-clause-crash g c = λ s after m sound is honest.
     on_err_more c.apply-done.result (c.apply-done.ensures.crash s after m.0 sound is honest) (λ it. record { either = it.either; whole = it.whole })
+
+pub returns-else-is_ok-clause-durable : goal.returns-else-is_ok-clause-durable
+returns-else-is_ok-clause-durable g c = grind arith
+
+pub returns-else-is_ok-clause-emptied : goal.returns-else-is_ok-clause-emptied
+returns-else-is_ok-clause-emptied g c = grind arith
+
+pub returns-else-is_ok-clause-made : goal.returns-else-is_ok-clause-made
+returns-else-is_ok-clause-made g c = grind arith
+
+pub returns-else-is_ok-clause-opened : goal.returns-else-is_ok-clause-opened
+returns-else-is_ok-clause-opened g c = grind arith
+
+pub returns-else-is_ok-clause-room : goal.returns-else-is_ok-clause-room
+returns-else-is_ok-clause-room g c = grind arith
+
+pub returns-else-is_ok-clause-same : goal.returns-else-is_ok-clause-same
+returns-else-is_ok-clause-same g c = grind arith
+
+pub returns-else-is_ok-clause-staged : goal.returns-else-is_ok-clause-staged
+returns-else-is_ok-clause-staged g c = grind arith
+
+pub returns-then-is_ok-clause-count : goal.returns-then-is_ok-clause-count
+returns-then-is_ok-clause-count g c = grind arith
+
+pub returns-then-is_ok-clause-crash : goal.returns-then-is_ok-clause-crash
+returns-then-is_ok-clause-crash g c = grind arith
+
+pub returns-then-is_ok-clause-emptied : goal.returns-then-is_ok-clause-emptied
+returns-then-is_ok-clause-emptied g c = grind arith
+
+pub returns-then-is_ok-clause-first : goal.returns-then-is_ok-clause-first
+returns-then-is_ok-clause-first g c = grind arith
+
+pub returns-then-is_ok-clause-full : goal.returns-then-is_ok-clause-full
+returns-then-is_ok-clause-full g c = grind arith
+
+pub returns-then-is_ok-clause-honest : goal.returns-then-is_ok-clause-honest
+returns-then-is_ok-clause-honest g c = grind arith
+
+pub returns-then-is_ok-clause-opened : goal.returns-then-is_ok-clause-opened
+returns-then-is_ok-clause-opened g c = grind arith
+
+pub returns-then-is_ok-clause-same : goal.returns-then-is_ok-clause-same
+returns-then-is_ok-clause-same g c = grind arith
+
+pub returns-then-is_ok-clause-staged : goal.returns-then-is_ok-clause-staged
+returns-then-is_ok-clause-staged g c = grind arith
+
+pub returns-then-is_ok-clause-store : goal.returns-then-is_ok-clause-store
+returns-then-is_ok-clause-store g c = grind arith

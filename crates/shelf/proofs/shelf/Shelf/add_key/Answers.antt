@@ -40,3 +40,12 @@ returns-in-Ok-insert-clause-made c s after h obeyed =
     = ap (λ (i : List ℕ). record s { keys = insert s.keys i (key_of row) }) made.0 ∙ ap (λ (x : Key). record s { keys = insert s.keys c.args.id.now x }) made.1
     ∙ sym (key_added_is s c.args.id.now c.args.role c.args.secret.now after obeyed.step) in
     subst (Holds (record k { keys = c.insert.new.self; clerks = n })) same held
+
+pub returns-clause-fault : goal.returns-clause-fault
+returns-clause-fault c = grind arith
+
+pub returns-clause-same : goal.returns-clause-same
+returns-clause-same c = grind arith
+
+pub returns-clause-staged : goal.returns-clause-staged
+returns-clause-staged c = grind arith

@@ -1,4 +1,4 @@
-use Rattle.std.proofs.Common.{rules, ◌≡◌, ◌∙◌, None, Some, length, option_map, sym, ap, subst}
+use Rattle.std.proofs.Common.{rules, ◌≡◌, ◌∙◌, None, Some, length, option_map, sym, ap, subst, arith}
 use Rattle.std.specs.FinMap.{get, remove}
 use Rattle.boxes.specs.State.{Place, place_cmp}
 use Rattle.boxes.proofs.Lookups.{place_total, some_none}
@@ -37,3 +37,9 @@ returns-clause-made c s after h sound obeyed =
           let none : found place_cmp place_of k.files.entries place ≡ None = sym (c.remove.ensures.value ∙ at) ∙ w.in_default-remove.is in
           absurd (some_none f.0 (sym f.1 ∙ h.files.each place ∙ ap (option_map stored_file) none))
     ]
+
+pub returns-clause-count : goal.returns-clause-count
+returns-clause-count c = grind arith
+
+pub returns-clause-staged : goal.returns-clause-staged
+returns-clause-staged c = grind arith

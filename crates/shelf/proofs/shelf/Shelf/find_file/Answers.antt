@@ -1,4 +1,4 @@
-use Rattle.std.proofs.Common.{◌∙◌, sym, ap}
+use Rattle.std.proofs.Common.{◌∙◌, sym, ap, arith}
 use Rattle.std.specs.Prelude.{slice_get}
 use Rattle.boxes.specs.State.{place_cmp}
 use Rattle.shelf.specs.Maps.{found}
@@ -14,3 +14,12 @@ returns-in-Ok-copy_file-clause-value c s h sound =
     let copied = c.in-Ok-copy_file.ensures in
     file_at k s (record { box = c.args.in_box.now; name = c.args.name.now }) c.in-Some.stored.now c.in-Some-numbered_of.receipt.now at.0 c.in-Ok-copy_file.copy h there at.1
     (ap (λ l. slice_get l at.0) (sym c.deref.ensures.value) ∙ at.2) copied.0 copied.1
+
+pub returns-in-Ok-copy_file-clause-rest : goal.returns-in-Ok-copy_file-clause-rest
+returns-in-Ok-copy_file-clause-rest c = grind arith
+
+pub returns-in_default-get-clause-rest : goal.returns-in_default-get-clause-rest
+returns-in_default-get-clause-rest c = grind arith
+
+pub returns-in_default-get-clause-value : goal.returns-in_default-get-clause-value
+returns-in_default-get-clause-value c = grind arith

@@ -1,4 +1,4 @@
-use Rattle.std.proofs.Common.{◌∙◌, sym, ap}
+use Rattle.std.proofs.Common.{◌∙◌, sym, ap, arith}
 use Rattle.boxes.specs.State.{place_cmp}
 use Rattle.shelf.specs.Maps.{found}
 use Rattle.shelf.specs.Shelves.{place_of}
@@ -17,3 +17,9 @@ returns-clause-value c s h =
     let there = ap (found place_cmp place_of k.files.entries) (sym c.in-Ok.ensures) ∙ sym c.in-Some.ensures.value in
     bytes_found k s (record { box = c.args.in_box.now; name = c.args.name.now }) c.in-Some.stored.now k.staged.items c.as_slice.result.now c.as_slice-2.result.now c.eq.result h there
     c.as_slice.ensures.value c.as_slice-2.ensures.value c.eq.ensures
+
+pub returns-clause-rest : goal.returns-clause-rest
+returns-clause-rest c = grind arith
+
+pub returns-in_default-get-clause-rest : goal.returns-in_default-get-clause-rest
+returns-in_default-get-clause-rest c = grind arith

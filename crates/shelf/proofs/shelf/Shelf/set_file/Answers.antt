@@ -252,3 +252,15 @@ returns-in-Err-clause-room c = tt
 
 pub returns-in-Err-clause-staged : goal.returns-in-Err-clause-staged
 returns-in-Err-clause-staged c = c.count-in-Err.ensures.staged
+
+pub returns-in-Ok-insert-clause-staged : goal.returns-in-Ok-insert-clause-staged
+returns-in-Ok-insert-clause-staged c = grind arith
+
+pub returns-then-not-has_room-clause-count : goal.returns-then-not-has_room-clause-count
+returns-then-not-has_room-clause-count c = grind arith
+
+pub returns-then-not-has_room-clause-fault : goal.returns-then-not-has_room-clause-fault
+returns-then-not-has_room-clause-fault c = grind arith
+
+pub returns-then-not-has_room-clause-same : goal.returns-then-not-has_room-clause-same
+returns-then-not-has_room-clause-same c = grind arith

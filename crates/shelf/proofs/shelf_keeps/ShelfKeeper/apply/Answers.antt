@@ -1,4 +1,4 @@
-use Rattle.std.proofs.Common.{◌≡◌, List, ℕ, inl, inr, subst, sym}
+use Rattle.std.proofs.Common.{◌≡◌, List, ℕ, inl, inr, subst, sym, arith}
 use Rattle.std.proofs.lemmas.Result.{on_ok_weaker, on_err_weaker}
 use Rattle.boxes.specs.State.{State}
 use Rattle.boxes.specs.declared.change.Change.{Change}
@@ -56,3 +56,39 @@ returns-in-Desk-clause-honest c = λ h. tt
 
 pub returns-in-Desk-clause-made : goal.returns-in-Desk-clause-made
 returns-in-Desk-clause-made c s after h sound change = c.obey.ensures.made s after h sound (subst (λ x. IsChangeOf (λ bytes. c.args.self.now.staged.items ≡ bytes) s x after) c.in-Desk.is change)
+
+pub returns-in-Desk-clause-emptied : goal.returns-in-Desk-clause-emptied
+returns-in-Desk-clause-emptied c = grind arith
+
+pub returns-in-Desk-clause-first : goal.returns-in-Desk-clause-first
+returns-in-Desk-clause-first c = grind arith
+
+pub returns-in-Desk-clause-full : goal.returns-in-Desk-clause-full
+returns-in-Desk-clause-full c = grind arith
+
+pub returns-in-Desk-clause-opened : goal.returns-in-Desk-clause-opened
+returns-in-Desk-clause-opened c = grind arith
+
+pub returns-in-Desk-clause-room : goal.returns-in-Desk-clause-room
+returns-in-Desk-clause-room c = grind arith
+
+pub returns-in-Desk-clause-staged : goal.returns-in-Desk-clause-staged
+returns-in-Desk-clause-staged c = grind arith
+
+pub returns-in-SetFile-clause-emptied : goal.returns-in-SetFile-clause-emptied
+returns-in-SetFile-clause-emptied c = grind arith
+
+pub returns-in-SetFile-clause-first : goal.returns-in-SetFile-clause-first
+returns-in-SetFile-clause-first c = grind arith
+
+pub returns-in-SetFile-clause-full : goal.returns-in-SetFile-clause-full
+returns-in-SetFile-clause-full c = grind arith
+
+pub returns-in-SetFile-clause-opened : goal.returns-in-SetFile-clause-opened
+returns-in-SetFile-clause-opened c = grind arith
+
+pub returns-in-SetFile-clause-room : goal.returns-in-SetFile-clause-room
+returns-in-SetFile-clause-room c = grind arith
+
+pub returns-in-SetFile-clause-staged : goal.returns-in-SetFile-clause-staged
+returns-in-SetFile-clause-staged c = grind arith

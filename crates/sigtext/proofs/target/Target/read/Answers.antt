@@ -1,4 +1,4 @@
-use Rattle.std.proofs.Common.{◌≡◌, true, false, [], List, ℕ, Option, refl, sym, subst}
+use Rattle.std.proofs.Common.{◌≡◌, true, false, [], List, ℕ, Option, refl, sym, subst, arith}
 use Rattle.std.specs.Borrow.{Bor}
 use Rattle.sigtext.specs.Target.{Param}
 use Rattle.sigtext.specs.Targets.{SpellsOptionalQuery}
@@ -36,3 +36,6 @@ returns-in-Some-2-clause-err c =
     λ path params is.
     let s = reading_from c.raw_target-target.result c.args.text.now path params c.raw_target-target.ensures is in
     differ (c.if-is_query.ensures.1 (params, spelled_at _ _ params c.in-Some.is s.query_spelled))
+
+pub bounds-text-0 : goal.bounds-text-0
+bounds-text-0 c = grind arith

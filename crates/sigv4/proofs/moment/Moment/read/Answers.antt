@@ -1,4 +1,4 @@
-use Rattle.std.proofs.Common.{sym, subst, ◌∙◌}
+use Rattle.std.proofs.Common.{sym, subst, ◌∙◌, arith}
 use Rattle.sigv4.specs.Dates.{IsCivilTime}
 use Rattle.sigv4.specs.Stamps.{stamp_of}
 use Rattle.sigv4.specs.declared.moment.Stamp.{Stamp}
@@ -27,3 +27,6 @@ pub returns-clause-found : goal.returns-clause-found
 returns-clause-found c =
     let found = c.in_ok-seconds.ensures.found in
     record { time = stamp_of c.in_ok-read.field-0; is_civil_time = found.0; written = c.in_ok-read.ensures.found; seconds = found.1 }
+
+pub returns-in_err-seconds-clause-found : goal.returns-in_err-seconds-clause-found
+returns-in_err-seconds-clause-found c = grind arith

@@ -17,3 +17,6 @@ returns-clause-same c =
     let from : pos 0 ≤ℤ epoch_day date = omega (arith, signed_arith) in
     let year : date.year ≡ pos c.unsigned_abs.result = year_is date c.unsigned_abs.result from c.unsigned_abs.ensures.value in
     IsSeconds-of_date date _ (c.args.seconds / 86400) c.args.seconds c.date_of-date.ensures year refl refl (omega arith)
+
+pub invariant_of-result : goal.invariant_of-result
+invariant_of-result c = grind arith

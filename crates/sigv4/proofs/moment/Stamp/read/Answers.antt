@@ -61,3 +61,33 @@ returns-in_err-minute-clause-absent c = rw c.from_residual-in_err-minute.ensures
 
 pub returns-in_err-second-clause-absent : goal.returns-in_err-second-clause-absent
 returns-in_err-second-clause-absent c = rw c.from_residual-in_err-second.ensures (λ s e. c.in_err-second.ensures.absent s.second (at 13 e) (at 14 e))
+
+pub invariant_of-result : goal.invariant_of-result
+invariant_of-result c = grind arith
+
+pub overflow_add-result : goal.overflow_add-result
+overflow_add-result c = grind arith
+
+pub overflow_mul-result : goal.overflow_mul-result
+overflow_mul-result c = grind arith
+
+pub returns-in_err-century-clause-found : goal.returns-in_err-century-clause-found
+returns-in_err-century-clause-found c = grind arith
+
+pub returns-in_err-day-clause-found : goal.returns-in_err-day-clause-found
+returns-in_err-day-clause-found c = grind arith
+
+pub returns-in_err-hour-clause-found : goal.returns-in_err-hour-clause-found
+returns-in_err-hour-clause-found c = grind arith
+
+pub returns-in_err-minute-clause-found : goal.returns-in_err-minute-clause-found
+returns-in_err-minute-clause-found c = grind arith
+
+pub returns-in_err-month-clause-found : goal.returns-in_err-month-clause-found
+returns-in_err-month-clause-found c = grind arith
+
+pub returns-in_err-second-clause-found : goal.returns-in_err-second-clause-found
+returns-in_err-second-clause-found c = grind arith
+
+pub returns-in_err-year-clause-found : goal.returns-in_err-year-clause-found
+returns-in_err-year-clause-found c = grind arith

@@ -1,6 +1,7 @@
 use Rattle.std.proofs.Common.{◌≡◌, ◌≤ℤ◌, Ok, ℤ, pos, ◌∙◌, arith, ap, to_z, of_z, unsigned_abs, w8, w16, w32}
 use Rattle.std.proofs.lemmas.Int.{to_z_pos}
 use Rattle.std.proofs.lemmas.Result.{IfOk-at_ok}
+use Rattle.std.proofs.lemmas.Grind.{common_steps}
 use Rattle.jiff_core.specs.Date.{epoch_day}
 use Rattle.jiff_core.proofs.SignedLemmas.{signed_arith}
 use Rattle.sigv4.proofs.Moments.{day_is, IsCivilTime-of_date, IsSeconds-of_date}
@@ -22,3 +23,36 @@ returns-clause-found c =
       IsCivilTime-of_date date _ (omega (arith, signed_arith, number)) year month day (omega arith) (omega arith) (omega arith),
       IsSeconds-of_date date _ c.unsigned_abs-day.result _ number year month day (omega arith),
     )
+
+pub overflow_add-time : goal.overflow_add-time
+overflow_add-time c = grind arith
+
+pub overflow_add-time-2 : goal.overflow_add-time-2
+overflow_add-time-2 c = grind arith
+
+pub overflow_cast-self : goal.overflow_cast-self
+overflow_cast-self c = grind arith
+
+pub overflow_cast-self-2 : goal.overflow_cast-self-2
+overflow_cast-self-2 c = grind arith
+
+pub overflow_cast-self-3 : goal.overflow_cast-self-3
+overflow_cast-self-3 c = grind arith
+
+pub overflow_mul-result : goal.overflow_mul-result
+overflow_mul-result c = grind arith
+
+pub overflow_mul-time : goal.overflow_mul-time
+overflow_mul-time c = grind arith
+
+pub overflow_mul-time-2 : goal.overflow_mul-time-2
+overflow_mul-time-2 c = grind arith
+
+pub returns-in_err-date-clause-absent : goal.returns-in_err-date-clause-absent
+returns-in_err-date-clause-absent c = grind (arith, common_steps)
+
+pub returns-in_err-date-clause-found : goal.returns-in_err-date-clause-found
+returns-in_err-date-clause-found c = grind arith
+
+pub returns-then-self-lt1970-clause-absent : goal.returns-then-self-lt1970-clause-absent
+returns-then-self-lt1970-clause-absent c = grind arith

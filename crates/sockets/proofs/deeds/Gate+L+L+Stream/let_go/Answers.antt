@@ -37,3 +37,15 @@ returns-in-Sent g c =
       does = λ most. sent_free _ _ _ _ c.args.slots.now c.send_slot.new.slots c.args.index c.send_slot.ensures.done c.free.new.slots c.free.ensures.freed;
       stays = c.free.ensures.stays;
     }
+
+pub is_through_at-requires : goal.is_through_at-requires
+is_through_at-requires g c = grind arith
+
+pub returns-in-Waits-clause-stays : goal.returns-in-Waits-clause-stays
+returns-in-Waits-clause-stays g c = grind arith
+
+pub returns-then-not-may_go-clause-stays : goal.returns-then-not-may_go-clause-stays
+returns-then-not-may_go-clause-stays g c = grind arith
+
+pub send_slot-requires : goal.send_slot-requires
+send_slot-requires g c = grind arith

@@ -41,3 +41,45 @@ returns-in-Send-clause-does g c = rw c.in-Send.is c.send_slot.ensures.done
 
 pub returns-in-Free-clause-does : goal.returns-in-Free-clause-does
 returns-in-Free-clause-does g c = rw c.in-Free.is (c.let_go.ensures.does (length c.args.buf.now))
+
+pub fail_slot-requires : goal.fail_slot-requires
+fail_slot-requires g c = grind arith
+
+pub gather-outcome-requires : goal.gather-outcome-requires
+gather-outcome-requires g c = grind arith
+
+pub let_go-requires : goal.let_go-requires
+let_go-requires g c = grind arith
+
+pub make_room_in_slot-requires : goal.make_room_in_slot-requires
+make_room_in_slot-requires g c = grind arith
+
+pub returns-in-Fail-clause-stays : goal.returns-in-Fail-clause-stays
+returns-in-Fail-clause-stays g c = grind arith
+
+pub returns-in-Free-clause-moves : goal.returns-in-Free-clause-moves
+returns-in-Free-clause-moves g c = grind arith
+
+pub returns-in-Free-clause-stays : goal.returns-in-Free-clause-stays
+returns-in-Free-clause-stays g c = grind arith
+
+pub returns-in-Gather-clause-stays : goal.returns-in-Gather-clause-stays
+returns-in-Gather-clause-stays g c = grind arith
+
+pub returns-in-Reserve-clause-stays : goal.returns-in-Reserve-clause-stays
+returns-in-Reserve-clause-stays g c = grind arith
+
+pub returns-in-Send-clause-stays : goal.returns-in-Send-clause-stays
+returns-in-Send-clause-stays g c = grind arith
+
+pub returns-in-Settle-clause-stays : goal.returns-in-Settle-clause-stays
+returns-in-Settle-clause-stays g c = grind arith
+
+pub returns-then-index-slots-clause-stays : goal.returns-then-index-slots-clause-stays
+returns-then-index-slots-clause-stays g c = grind arith
+
+pub send_slot-requires : goal.send_slot-requires
+send_slot-requires g c = grind arith
+
+pub settle_slot-requires : goal.settle_slot-requires
+settle_slot-requires g c = grind arith

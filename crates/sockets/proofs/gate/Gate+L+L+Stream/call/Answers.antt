@@ -30,3 +30,9 @@ returns-in-Err g c = record { passes = misses_one _ _ c.args.self.now _ c.in-Err
 pub returns-in-Err-2 : goal.returns-in-Err-2
 returns-in-Err-2 g c =
     record { passes = refuses_one _ _ c.args.self.now _ c.in-Err.error refl (omega (arith, c.if-self-eq0.false)) refl refl refl refl (λ want. both_ways c.is_want.result c.if-is_want.false (c.is_want.ensures.all want)) c.in-Err.ensures.missed; told = (refl, omega (arith, c.if-self-eq0.false), c.in-Err.error, λ want. both_ways c.is_want.result c.if-is_want.false (c.is_want.ensures.all want), c.in-Err.ensures.missed) }
+
+pub overflow_sub-self : goal.overflow_sub-self
+overflow_sub-self g c = grind arith
+
+pub overflow_sub-self-in-Err-2 : goal.overflow_sub-self-in-Err-2
+overflow_sub-self-in-Err-2 g c = grind arith

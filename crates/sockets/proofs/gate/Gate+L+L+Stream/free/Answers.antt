@@ -20,3 +20,18 @@ overflow_add-self-in-Some g c = omega (arith, c.args.self.now.lacking, c.require
 
 pub invariant_of-self : goal.invariant_of-self
 invariant_of-self g c = record { lacking = omega (arith, c.args.self.now.lacking, c.lacking.ensures.most) }
+
+pub free_slot-requires : goal.free_slot-requires
+free_slot-requires g c = grind arith
+
+pub overflow_add-self : goal.overflow_add-self
+overflow_add-self g c = grind arith
+
+pub returns-in-Some-clause-freed : goal.returns-in-Some-clause-freed
+returns-in-Some-clause-freed g c = grind arith
+
+pub returns-in-Some-clause-stays : goal.returns-in-Some-clause-stays
+returns-in-Some-clause-stays g c = grind arith
+
+pub returns-in_default-clause-stays : goal.returns-in_default-clause-stays
+returns-in_default-clause-stays g c = grind arith

@@ -51,3 +51,9 @@ returns-in-Err g c =
     let passes = puts_off _ _ c.args.self.now c.put_off.new.self c.put_off.result c.in-Some-take.stream back c.take.new.self error waits c.in-Err.ensures.back c.put_off.ensures.told c.take.ensures.after others.1 others.2
     others.3 others.4 others.5 (λ log is. subst (λ l. told l (log ++ unready back error ∷ [])) (sym others.0) (c.in-Err.ensures.unready log is)) in
     record { moves = moves_called _ _ _ _ c.args.self.now c.put_off.new.self c.args.slots.now passes; told = put_off_so told c.args.self.now c.put_off.new.self c.put_off.result c.in-Some-take.stream back c.take.new.self error c.args.slots.now waits c.in-Err.ensures.back c.put_off.ensures.told c.take.ensures.after others.1 others.3 others.4 (λ log is. subst (λ l. told l (log ++ unready back error ∷ [])) (sym others.0) (c.in-Err.ensures.unready log is)) }
+
+pub invariant_of-self : goal.invariant_of-self
+invariant_of-self g c = grind arith
+
+pub seat_in-index-requires-clause-new : goal.seat_in-index-requires-clause-new
+seat_in-index-requires-clause-new g c = grind arith

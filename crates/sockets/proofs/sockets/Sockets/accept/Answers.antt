@@ -1,3 +1,4 @@
+use Rattle.std.proofs.Common.{arith}
 use Rattle.sockets.proofs.Moved.{moves_called, moves_then}
 use Rattle.sockets.proofs.sockets.Sockets.accept.Goals as goal
 
@@ -8,3 +9,12 @@ returns-in-Came-clause-moves g c =
 
 pub returns-in_default-clause-moves : goal.returns-in_default-clause-moves
 returns-in_default-clause-moves g c = moves_called _ _ _ _ c.args.self.now.gate c.call.new.self c.args.slots.now c.call.ensures.passes
+
+pub invariant_of-self : goal.invariant_of-self
+invariant_of-self g c = grind arith
+
+pub invariant_of-self-in_default : goal.invariant_of-self-in_default
+invariant_of-self-in_default g c = grind arith
+
+pub returns-in-Came-clause-turns : goal.returns-in-Came-clause-turns
+returns-in-Came-clause-turns g c = grind arith

@@ -63,3 +63,54 @@ returns-clause-changes g c came gone met =
       x.3,
       λ numbers given among gave. gave_still _ _ _ _ given (omega (arith, met.counted, x.2.counted, length-append came x.0)) c.steps.invariant.1 gave,
     )
+
+pub invariant_of-self : goal.invariant_of-self
+invariant_of-self g c = grind arith
+
+pub invariant_of-self-in-Turn : goal.invariant_of-self-in-Turn
+invariant_of-self-in-Turn g c = grind arith
+
+pub overflow_sub-self : goal.overflow_sub-self
+overflow_sub-self g c = grind arith
+
+pub returns-clause-counts : goal.returns-clause-counts
+returns-clause-counts g c = grind arith
+
+pub returns-clause-due : goal.returns-clause-due
+returns-clause-due g c = grind arith
+
+pub returns-clause-over : goal.returns-clause-over
+returns-clause-over g c = grind arith
+
+pub returns-clause-within : goal.returns-clause-within
+returns-clause-within g c = grind arith
+
+pub returns-in-Over-clause-counts : goal.returns-in-Over-clause-counts
+returns-in-Over-clause-counts g c = grind arith
+
+pub returns-in-Over-clause-due : goal.returns-in-Over-clause-due
+returns-in-Over-clause-due g c = grind arith
+
+pub returns-in-Over-clause-over : goal.returns-in-Over-clause-over
+returns-in-Over-clause-over g c = grind arith
+
+pub returns-in-Over-clause-within : goal.returns-in-Over-clause-within
+returns-in-Over-clause-within g c = grind arith
+
+pub returns-in-Turn-3-clause-counts : goal.returns-in-Turn-3-clause-counts
+returns-in-Turn-3-clause-counts g c = grind arith
+
+pub returns-in-Turn-3-clause-due : goal.returns-in-Turn-3-clause-due
+returns-in-Turn-3-clause-due g c = grind arith
+
+pub returns-in-Turn-3-clause-over : goal.returns-in-Turn-3-clause-over
+returns-in-Turn-3-clause-over g c = grind arith
+
+pub returns-in-Turn-3-clause-within : goal.returns-in-Turn-3-clause-within
+returns-in-Turn-3-clause-within g c = grind arith
+
+pub returns-in-Turn-clause-counts : goal.returns-in-Turn-clause-counts
+returns-in-Turn-clause-counts g c = grind arith
+
+pub returns-in-Turn-clause-over : goal.returns-in-Turn-clause-over
+returns-in-Turn-clause-over g c = grind arith

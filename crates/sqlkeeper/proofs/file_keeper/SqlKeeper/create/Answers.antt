@@ -1,4 +1,4 @@
-use Rattle.std.proofs.Common.{◌≡◌, ◌≤◌, inl, inr, ℕ, refl, subst, w16, to_z, of_z, rules}
+use Rattle.std.proofs.Common.{◌≡◌, ◌≤◌, inl, inr, ℕ, refl, subst, w16, to_z, of_z, rules, arith}
 use Rattle.sqlite.specs.Held.{state}
 use Rattle.sigv4.specs.Allowances.{most_allowance}
 use Rattle.boxes.specs.FirstState.{first_state}
@@ -60,3 +60,96 @@ returns-in-Err-clause-spares g c west east is_id is_secret =
         )
       ];
     }
+
+pub returns-in-Err-clause-durable : goal.returns-in-Err-clause-durable
+returns-in-Err-clause-durable g c = grind arith
+
+pub returns-in-Err-clause-made : goal.returns-in-Err-clause-made
+returns-in-Err-clause-made g c = grind arith
+
+pub returns-in-Err-clause-told : goal.returns-in-Err-clause-told
+returns-in-Err-clause-told g c = grind arith
+
+pub returns-in-Err-clause-untouched : goal.returns-in-Err-clause-untouched
+returns-in-Err-clause-untouched g c = grind arith
+
+pub returns-in-Ok-create-clause-bare : goal.returns-in-Ok-create-clause-bare
+returns-in-Ok-create-clause-bare g c = grind arith
+
+pub returns-in-Ok-create-clause-early : goal.returns-in-Ok-create-clause-early
+returns-in-Ok-create-clause-early g c = grind arith
+
+pub returns-in-Ok-create-clause-exists : goal.returns-in-Ok-create-clause-exists
+returns-in-Ok-create-clause-exists g c = grind arith
+
+pub returns-in-Ok-create-clause-kept : goal.returns-in-Ok-create-clause-kept
+returns-in-Ok-create-clause-kept g c = grind arith
+
+pub returns-in-Ok-create-clause-opened : goal.returns-in-Ok-create-clause-opened
+returns-in-Ok-create-clause-opened g c = grind arith
+
+pub returns-in-Ok-create-clause-spares : goal.returns-in-Ok-create-clause-spares
+returns-in-Ok-create-clause-spares g c = grind arith
+
+pub returns-in-Ok-create-clause-staged : goal.returns-in-Ok-create-clause-staged
+returns-in-Ok-create-clause-staged g c = grind arith
+
+pub returns-in_default-clause-crash : goal.returns-in_default-clause-crash
+returns-in_default-clause-crash g c = grind arith
+
+pub returns-in_default-clause-durable : goal.returns-in_default-clause-durable
+returns-in_default-clause-durable g c = grind arith
+
+pub returns-in_default-clause-exists : goal.returns-in_default-clause-exists
+returns-in_default-clause-exists g c = grind arith
+
+pub returns-in_default-clause-made : goal.returns-in_default-clause-made
+returns-in_default-clause-made g c = grind arith
+
+pub returns-in_default-clause-spares : goal.returns-in_default-clause-spares
+returns-in_default-clause-spares g c = grind arith
+
+pub returns-in_default-clause-told : goal.returns-in_default-clause-told
+returns-in_default-clause-told g c = grind arith
+
+pub returns-in_default-clause-untouched : goal.returns-in_default-clause-untouched
+returns-in_default-clause-untouched g c = grind arith
+
+pub returns-then-not-is_autocommit-clause-crash : goal.returns-then-not-is_autocommit-clause-crash
+returns-then-not-is_autocommit-clause-crash g c = grind arith
+
+pub returns-then-not-is_autocommit-clause-durable : goal.returns-then-not-is_autocommit-clause-durable
+returns-then-not-is_autocommit-clause-durable g c = grind arith
+
+pub returns-then-not-is_autocommit-clause-exists : goal.returns-then-not-is_autocommit-clause-exists
+returns-then-not-is_autocommit-clause-exists g c = grind arith
+
+pub returns-then-not-is_autocommit-clause-made : goal.returns-then-not-is_autocommit-clause-made
+returns-then-not-is_autocommit-clause-made g c = grind arith
+
+pub returns-then-not-is_autocommit-clause-spares : goal.returns-then-not-is_autocommit-clause-spares
+returns-then-not-is_autocommit-clause-spares g c = grind arith
+
+pub returns-then-not-is_autocommit-clause-told : goal.returns-then-not-is_autocommit-clause-told
+returns-then-not-is_autocommit-clause-told g c = grind arith
+
+pub returns-then-not-is_autocommit-clause-untouched : goal.returns-then-not-is_autocommit-clause-untouched
+returns-then-not-is_autocommit-clause-untouched g c = grind arith
+
+pub returns-then-not-is_empty-clause-crash : goal.returns-then-not-is_empty-clause-crash
+returns-then-not-is_empty-clause-crash g c = grind arith
+
+pub returns-then-not-is_empty-clause-durable : goal.returns-then-not-is_empty-clause-durable
+returns-then-not-is_empty-clause-durable g c = grind arith
+
+pub returns-then-not-is_empty-clause-exists : goal.returns-then-not-is_empty-clause-exists
+returns-then-not-is_empty-clause-exists g c = grind arith
+
+pub returns-then-not-is_empty-clause-made : goal.returns-then-not-is_empty-clause-made
+returns-then-not-is_empty-clause-made g c = grind arith
+
+pub returns-then-not-is_empty-clause-spares : goal.returns-then-not-is_empty-clause-spares
+returns-then-not-is_empty-clause-spares g c = grind arith
+
+pub returns-then-not-is_empty-clause-told : goal.returns-then-not-is_empty-clause-told
+returns-then-not-is_empty-clause-told g c = grind arith

@@ -1,4 +1,4 @@
-use Rattle.std.proofs.Common.{inl, inr, IsTrue, subst}
+use Rattle.std.proofs.Common.{inl, inr, IsTrue, subst, arith}
 use Rattle.sqlite.specs.Held.{state}
 use Rattle.sqlaudit.specs.Opened.{IsEither, HasNamesOf}
 use Rattle.sqlkeeper.specs.Versions.{IsOfficeFile}
@@ -223,3 +223,105 @@ returns-in-Err-upgrade_file-clause-kept g c =
     let mid = state g.S.Store c.find_either.new.conn in
     let new = state g.S.Store c.upgrade_file.new.conn in
     looks_still old mid c.in-Ok-First.ensures.rest new c.upgrade_file.ensures.honest (λ clean. c.in-Err-upgrade_file.ensures.kept (c.in-Ok-First.ensures.at_rest (c.upgrade_file.ensures.honest clean)).settled clean)
+
+pub returns-in-Err-clause-crash : goal.returns-in-Err-clause-crash
+returns-in-Err-clause-crash g c = grind arith
+
+pub returns-in-Err-clause-kept : goal.returns-in-Err-clause-kept
+returns-in-Err-clause-kept g c = grind arith
+
+pub returns-in-Err-clause-shape : goal.returns-in-Err-clause-shape
+returns-in-Err-clause-shape g c = grind arith
+
+pub returns-in-Err-clause-spares : goal.returns-in-Err-clause-spares
+returns-in-Err-clause-spares g c = grind arith
+
+pub returns-in-Err-clause-told : goal.returns-in-Err-clause-told
+returns-in-Err-clause-told g c = grind arith
+
+pub returns-in-Err-clause-version : goal.returns-in-Err-clause-version
+returns-in-Err-clause-version g c = grind arith
+
+pub returns-in-Err-empty_file-clause-shape : goal.returns-in-Err-empty_file-clause-shape
+returns-in-Err-empty_file-clause-shape g c = grind arith
+
+pub returns-in-Err-empty_file-clause-spared : goal.returns-in-Err-empty_file-clause-spared
+returns-in-Err-empty_file-clause-spared g c = grind arith
+
+pub returns-in-Err-empty_file-clause-told : goal.returns-in-Err-empty_file-clause-told
+returns-in-Err-empty_file-clause-told g c = grind arith
+
+pub returns-in-Err-empty_file-clause-unharmed : goal.returns-in-Err-empty_file-clause-unharmed
+returns-in-Err-empty_file-clause-unharmed g c = grind arith
+
+pub returns-in-Err-empty_file-clause-version : goal.returns-in-Err-empty_file-clause-version
+returns-in-Err-empty_file-clause-version g c = grind arith
+
+pub returns-in-Err-upgrade_file-clause-shape : goal.returns-in-Err-upgrade_file-clause-shape
+returns-in-Err-upgrade_file-clause-shape g c = grind arith
+
+pub returns-in-Err-upgrade_file-clause-spared : goal.returns-in-Err-upgrade_file-clause-spared
+returns-in-Err-upgrade_file-clause-spared g c = grind arith
+
+pub returns-in-Err-upgrade_file-clause-told : goal.returns-in-Err-upgrade_file-clause-told
+returns-in-Err-upgrade_file-clause-told g c = grind arith
+
+pub returns-in-Err-upgrade_file-clause-unharmed : goal.returns-in-Err-upgrade_file-clause-unharmed
+returns-in-Err-upgrade_file-clause-unharmed g c = grind arith
+
+pub returns-in-Err-upgrade_file-clause-version : goal.returns-in-Err-upgrade_file-clause-version
+returns-in-Err-upgrade_file-clause-version g c = grind arith
+
+pub returns-in-Ok-Damaged-clause-crash : goal.returns-in-Ok-Damaged-clause-crash
+returns-in-Ok-Damaged-clause-crash g c = grind arith
+
+pub returns-in-Ok-Damaged-clause-kept : goal.returns-in-Ok-Damaged-clause-kept
+returns-in-Ok-Damaged-clause-kept g c = grind arith
+
+pub returns-in-Ok-Damaged-clause-shape : goal.returns-in-Ok-Damaged-clause-shape
+returns-in-Ok-Damaged-clause-shape g c = grind arith
+
+pub returns-in-Ok-Damaged-clause-spares : goal.returns-in-Ok-Damaged-clause-spares
+returns-in-Ok-Damaged-clause-spares g c = grind arith
+
+pub returns-in-Ok-Damaged-clause-told : goal.returns-in-Ok-Damaged-clause-told
+returns-in-Ok-Damaged-clause-told g c = grind arith
+
+pub returns-in-Ok-Damaged-clause-version : goal.returns-in-Ok-Damaged-clause-version
+returns-in-Ok-Damaged-clause-version g c = grind arith
+
+pub returns-in-Ok-OtherVersion-clause-crash : goal.returns-in-Ok-OtherVersion-clause-crash
+returns-in-Ok-OtherVersion-clause-crash g c = grind arith
+
+pub returns-in-Ok-OtherVersion-clause-kept : goal.returns-in-Ok-OtherVersion-clause-kept
+returns-in-Ok-OtherVersion-clause-kept g c = grind arith
+
+pub returns-in-Ok-OtherVersion-clause-shape : goal.returns-in-Ok-OtherVersion-clause-shape
+returns-in-Ok-OtherVersion-clause-shape g c = grind arith
+
+pub returns-in-Ok-OtherVersion-clause-spares : goal.returns-in-Ok-OtherVersion-clause-spares
+returns-in-Ok-OtherVersion-clause-spares g c = grind arith
+
+pub returns-in-Ok-OtherVersion-clause-told : goal.returns-in-Ok-OtherVersion-clause-told
+returns-in-Ok-OtherVersion-clause-told g c = grind arith
+
+pub returns-in-Ok-OtherVersion-clause-version : goal.returns-in-Ok-OtherVersion-clause-version
+returns-in-Ok-OtherVersion-clause-version g c = grind arith
+
+pub returns-in-Ok-clause-early : goal.returns-in-Ok-clause-early
+returns-in-Ok-clause-early g c = grind arith
+
+pub returns-in-Ok-clause-opened : goal.returns-in-Ok-clause-opened
+returns-in-Ok-clause-opened g c = grind arith
+
+pub returns-in-Ok-clause-staged : goal.returns-in-Ok-clause-staged
+returns-in-Ok-clause-staged g c = grind arith
+
+pub returns-in-Ok-upgrade_file-clause-early : goal.returns-in-Ok-upgrade_file-clause-early
+returns-in-Ok-upgrade_file-clause-early g c = grind arith
+
+pub returns-in-Ok-upgrade_file-clause-opened : goal.returns-in-Ok-upgrade_file-clause-opened
+returns-in-Ok-upgrade_file-clause-opened g c = grind arith
+
+pub returns-in-Ok-upgrade_file-clause-staged : goal.returns-in-Ok-upgrade_file-clause-staged
+returns-in-Ok-upgrade_file-clause-staged g c = grind arith

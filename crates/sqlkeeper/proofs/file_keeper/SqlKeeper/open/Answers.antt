@@ -1,4 +1,4 @@
-use Rattle.std.proofs.Common.{subst}
+use Rattle.std.proofs.Common.{subst, arith}
 use Rattle.sqlite.specs.Held.{state}
 use Rattle.sqltables.specs.Schema.{v2}
 use Rattle.sqltables.specs.Kept.{KeepsState}
@@ -112,3 +112,75 @@ returns-in-Err-empty_file-clause-kept g c =
     let mid = state g.S.Store c.find.new.conn in
     let new = state g.S.Store c.empty_file.new.conn in
     looks_still old mid c.in-Ok-Sound.ensures.rest new c.empty_file.ensures.honest (λ clean. c.in-Err-empty_file.ensures.kept (c.in-Ok-Sound.ensures.at_rest (c.empty_file.ensures.honest clean)).settled clean)
+
+pub returns-in-Err-clause-failed : goal.returns-in-Err-clause-failed
+returns-in-Err-clause-failed g c = grind arith
+
+pub returns-in-Err-clause-kept : goal.returns-in-Err-clause-kept
+returns-in-Err-clause-kept g c = grind arith
+
+pub returns-in-Err-clause-shape : goal.returns-in-Err-clause-shape
+returns-in-Err-clause-shape g c = grind arith
+
+pub returns-in-Err-clause-spares : goal.returns-in-Err-clause-spares
+returns-in-Err-clause-spares g c = grind arith
+
+pub returns-in-Err-clause-told : goal.returns-in-Err-clause-told
+returns-in-Err-clause-told g c = grind arith
+
+pub returns-in-Err-clause-version : goal.returns-in-Err-clause-version
+returns-in-Err-clause-version g c = grind arith
+
+pub returns-in-Err-empty_file-clause-shape : goal.returns-in-Err-empty_file-clause-shape
+returns-in-Err-empty_file-clause-shape g c = grind arith
+
+pub returns-in-Err-empty_file-clause-told : goal.returns-in-Err-empty_file-clause-told
+returns-in-Err-empty_file-clause-told g c = grind arith
+
+pub returns-in-Err-empty_file-clause-unharmed : goal.returns-in-Err-empty_file-clause-unharmed
+returns-in-Err-empty_file-clause-unharmed g c = grind arith
+
+pub returns-in-Err-empty_file-clause-version : goal.returns-in-Err-empty_file-clause-version
+returns-in-Err-empty_file-clause-version g c = grind arith
+
+pub returns-in-Ok-Damaged-clause-failed : goal.returns-in-Ok-Damaged-clause-failed
+returns-in-Ok-Damaged-clause-failed g c = grind arith
+
+pub returns-in-Ok-Damaged-clause-kept : goal.returns-in-Ok-Damaged-clause-kept
+returns-in-Ok-Damaged-clause-kept g c = grind arith
+
+pub returns-in-Ok-Damaged-clause-shape : goal.returns-in-Ok-Damaged-clause-shape
+returns-in-Ok-Damaged-clause-shape g c = grind arith
+
+pub returns-in-Ok-Damaged-clause-spares : goal.returns-in-Ok-Damaged-clause-spares
+returns-in-Ok-Damaged-clause-spares g c = grind arith
+
+pub returns-in-Ok-Damaged-clause-told : goal.returns-in-Ok-Damaged-clause-told
+returns-in-Ok-Damaged-clause-told g c = grind arith
+
+pub returns-in-Ok-Damaged-clause-version : goal.returns-in-Ok-Damaged-clause-version
+returns-in-Ok-Damaged-clause-version g c = grind arith
+
+pub returns-in-Ok-OtherVersion-clause-failed : goal.returns-in-Ok-OtherVersion-clause-failed
+returns-in-Ok-OtherVersion-clause-failed g c = grind arith
+
+pub returns-in-Ok-OtherVersion-clause-kept : goal.returns-in-Ok-OtherVersion-clause-kept
+returns-in-Ok-OtherVersion-clause-kept g c = grind arith
+
+pub returns-in-Ok-OtherVersion-clause-shape : goal.returns-in-Ok-OtherVersion-clause-shape
+returns-in-Ok-OtherVersion-clause-shape g c = grind arith
+
+pub returns-in-Ok-OtherVersion-clause-spares : goal.returns-in-Ok-OtherVersion-clause-spares
+returns-in-Ok-OtherVersion-clause-spares g c = grind arith
+
+pub returns-in-Ok-OtherVersion-clause-told : goal.returns-in-Ok-OtherVersion-clause-told
+returns-in-Ok-OtherVersion-clause-told g c = grind arith
+
+pub returns-in-Ok-clause-named : goal.returns-in-Ok-clause-named
+returns-in-Ok-clause-named g c = grind arith
+
+pub returns-in-Ok-clause-opened : goal.returns-in-Ok-clause-opened
+returns-in-Ok-clause-opened g c = grind arith
+
+pub returns-in-Ok-clause-staged : goal.returns-in-Ok-clause-staged
+returns-in-Ok-clause-staged g c = grind arith

@@ -1,4 +1,4 @@
-use Rattle.std.proofs.Common.{sym, ◌∙◌}
+use Rattle.std.proofs.Common.{sym, ◌∙◌, arith}
 use Rattle.std.proofs.lemmas.Bool.{false≢true}
 use Rattle.sqlite.specs.Held.{state}
 use Rattle.boxes.proofs.Staging.{may_change}
@@ -40,3 +40,42 @@ returns-then-is_past_full-clause-full g c s after keeps sound change told = (c.i
 pub returns-clause-room : goal.returns-clause-room
 returns-clause-room g c s after keeps sound change =
     at_answer c.counted-answer.result (λ past. false≢true (sym c.if-is_past_full.false ∙ (c.is_past_full.ensures s after (may_change _ s after c.args.change.now change)).1 past))
+
+pub returns-clause-count : goal.returns-clause-count
+returns-clause-count g c = grind arith
+
+pub returns-clause-emptied : goal.returns-clause-emptied
+returns-clause-emptied g c = grind arith
+
+pub returns-clause-first : goal.returns-clause-first
+returns-clause-first g c = grind arith
+
+pub returns-clause-full : goal.returns-clause-full
+returns-clause-full g c = grind arith
+
+pub returns-clause-honest : goal.returns-clause-honest
+returns-clause-honest g c = grind arith
+
+pub returns-clause-opened : goal.returns-clause-opened
+returns-clause-opened g c = grind arith
+
+pub returns-clause-staged : goal.returns-clause-staged
+returns-clause-staged g c = grind arith
+
+pub returns-then-is_past_full-clause-count : goal.returns-then-is_past_full-clause-count
+returns-then-is_past_full-clause-count g c = grind arith
+
+pub returns-then-is_past_full-clause-crash : goal.returns-then-is_past_full-clause-crash
+returns-then-is_past_full-clause-crash g c = grind arith
+
+pub returns-then-is_past_full-clause-durable : goal.returns-then-is_past_full-clause-durable
+returns-then-is_past_full-clause-durable g c = grind arith
+
+pub returns-then-is_past_full-clause-first : goal.returns-then-is_past_full-clause-first
+returns-then-is_past_full-clause-first g c = grind arith
+
+pub returns-then-is_past_full-clause-made : goal.returns-then-is_past_full-clause-made
+returns-then-is_past_full-clause-made g c = grind arith
+
+pub returns-then-is_past_full-clause-room : goal.returns-then-is_past_full-clause-room
+returns-then-is_past_full-clause-room g c = grind arith

@@ -1,7 +1,7 @@
 use Rattle.sqlkeeper.proofs.NotText.{no_key}
 use Rattle.std.specs.FinMap.{get}
 use Rattle.std.specs.Prelude.{◌≡◌, option_map, IfOk}
-use Rattle.std.proofs.Common.{subst}
+use Rattle.std.proofs.Common.{subst, arith}
 use Rattle.boxes.specs.Rows.{key_of}
 use Rattle.sqlkeeper.proofs.file_keeper.SqlKeeperKeeper.key.Goals as goal
 
@@ -11,3 +11,9 @@ returns-in_default-clause-value g c s keeps sound clean = no_key s sound c.args.
 pub returns-clause-value : goal.returns-clause-value
 returns-clause-value g c s keeps sound clean =
     subst (λ n. IfOk c.answer.result (λ x. option_map key_of x ≡ get s.keys n)) c.in-Ok.ensures.cases.0 (c.answer.ensures.value s keeps sound clean)
+
+pub returns-clause-staged : goal.returns-clause-staged
+returns-clause-staged g c = grind arith
+
+pub returns-in_default-clause-rest : goal.returns-in_default-clause-rest
+returns-in_default-clause-rest g c = grind arith

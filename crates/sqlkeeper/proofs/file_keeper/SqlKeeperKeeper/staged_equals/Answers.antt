@@ -1,4 +1,4 @@
-use Rattle.std.proofs.Common.{ℕ, List, subst, subst₂}
+use Rattle.std.proofs.Common.{ℕ, List, subst, subst₂, arith}
 use Rattle.std.proofs.lemmas.Bool.{false≢true}
 use Rattle.std.specs.Prelude.{◌↔◌, IsTrue, IfOk}
 use Rattle.sqlite.specs.Held.{state}
@@ -30,3 +30,12 @@ returns-clause-value g c staged is s keeps sound clean =
 pub returns-clause-rest : goal.returns-clause-rest
 returns-clause-rest g c =
     stays (λ k. state g.S.Store k.conn) (λ k. k.faults) c.args.self.now (record { conn = c.ask.new.conn; staged = c.args.self.now.staged; faults = c.counted.new.faults; alloc = c.args.self.now.alloc }) c.ask.result c.counted.result c.counted.ensures.value c.ask.ensures.rest c.counted.ensures.count c.counted.ensures.room
+
+pub returns-clause-staged : goal.returns-clause-staged
+returns-clause-staged g c = grind arith
+
+pub returns-in_default-clause-rest : goal.returns-in_default-clause-rest
+returns-in_default-clause-rest g c = grind arith
+
+pub returns-in_default-from_utf8-clause-rest : goal.returns-in_default-from_utf8-clause-rest
+returns-in_default-from_utf8-clause-rest g c = grind arith

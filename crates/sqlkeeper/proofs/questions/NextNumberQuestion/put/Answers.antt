@@ -1,4 +1,4 @@
-use Rattle.std.proofs.Common.{◌≡◌, refl, rules, ◌∙◌}
+use Rattle.std.proofs.Common.{◌≡◌, refl, rules, ◌∙◌, arith}
 use Rattle.sqltables.specs.Schema.{v2, second_version}
 use Rattle.sqltables.specs.Tables.{tables_of}
 use Rattle.sqlkeeper.proofs.questions.NextNumberQuestion.put.Goals as goal
@@ -10,3 +10,6 @@ returns-clause-found g c s pends sound inside clean =
 
 pub returns-clause-still : goal.returns-clause-still
 returns-clause-still g c s pends = c.in_ok-next_number.ensures.still v2 (tables_of s) second_version pends
+
+pub returns-clause-rest : goal.returns-clause-rest
+returns-clause-rest g c = grind arith

@@ -4,6 +4,7 @@ use Rattle.sigtext.specs.Counts.{Rose}
 use Rattle.wire.specs.Heads.{IsHeadEnd, HasNoHeadEnd}
 use Rattle.std.proofs.KnownBytes.{Keeps-refl}
 use Rattle.std.proofs.lemmas.List.{append-nil, nil_from_length}
+use Rattle.std.proofs.lemmas.Grind.{common_steps}
 use Rattle.wire.specs.Waiting.{waiting}
 use Rattle.wire.proofs.Heads.{no_end_in_nothing}
 use Rattle.wire.proofs.Backlogs.{still_none, in_window, still_searched, kept_grown, kept_failed}
@@ -107,3 +108,9 @@ returns-in-Err g c =
       count = record { err = subst (λ (n : ℕ). Rose n c.read_more.new.reader.faults) c.reads.invariant.count c.in-Err.ensures.count.err; ok = tt };
       room = c.read_more.ensures.room ∙ c.reads.invariant.room;
     }
+
+pub read_more-requires : goal.read_more-requires
+read_more-requires g c = grind arith
+
+pub reads-smaller : goal.reads-smaller
+reads-smaller g c = grind (arith, common_steps)

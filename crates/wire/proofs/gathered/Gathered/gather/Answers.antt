@@ -1,4 +1,4 @@
-use Rattle.std.proofs.Common.{◌≡◌, ◌<◌, ℕ, List, length, take, drop, false, refl, sym, ap, subst, ◌∙◌}
+use Rattle.std.proofs.Common.{◌≡◌, ◌<◌, ℕ, List, length, take, drop, false, refl, sym, ap, subst, ◌∙◌, arith}
 use Rattle.std.specs.Bool.{◌==◌}
 use Rattle.std.specs.Prelude.{IsSome}
 use Rattle.std.specs.Io.KnownBytes.{Keeps}
@@ -96,3 +96,18 @@ returns-in_ok-extend_from_slice-in-Ok-clause-room g c = λ _. refl
 
 pub returns-in_ok-extend_from_slice-in-Ok-clause-failed : goal.returns-in_ok-extend_from_slice-in-Ok-clause-failed
 returns-in_ok-extend_from_slice-in-Ok-clause-failed g c = λ failed. subst IsSome (sym c.move_to_front.ensures.fault) failed
+
+pub returns-in_err-reserve-clause-gathers : goal.returns-in_err-reserve-clause-gathers
+returns-in_err-reserve-clause-gathers g c = grind arith
+
+pub returns-in_ok-extend_from_slice-in-Ok-clause-gathers : goal.returns-in_ok-extend_from_slice-in-Ok-clause-gathers
+returns-in_ok-extend_from_slice-in-Ok-clause-gathers g c = grind arith
+
+pub returns-in_ok-extend_from_slice-in-Ok-clause-most : goal.returns-in_ok-extend_from_slice-in-Ok-clause-most
+returns-in_ok-extend_from_slice-in-Ok-clause-most g c = grind arith
+
+pub slice_bounds-extend_from_slice-end : goal.slice_bounds-extend_from_slice-end
+slice_bounds-extend_from_slice-end g c = grind arith
+
+pub slice_bounds-extend_from_slice-end-in-Ok : goal.slice_bounds-extend_from_slice-end-in-Ok
+slice_bounds-extend_from_slice-end-in-Ok g c = grind arith

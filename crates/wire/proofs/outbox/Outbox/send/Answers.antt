@@ -4,6 +4,7 @@ use Rattle.std.specs.Io.KnownBytes.{Appends, Keeps, append_known}
 use Rattle.std.specs.Option.{is_some}
 use Rattle.std.proofs.KnownBytes.{Appends-kept, Appends-nil, Keeps-refl, append_known-kept}
 use Rattle.std.proofs.lemmas.Bool.{false≢true}
+use Rattle.std.proofs.lemmas.Grind.{common_steps}
 use Rattle.wire.specs.Outgoing.{waits_out}
 use Rattle.wire.specs.declared.outbox.Sending.TheVariants.{Sent, Waits, Failed}
 use Rattle.wire.proofs.ReadAhead.{not_empty}
@@ -128,3 +129,18 @@ returns-in-Ok-Some-clause-takes g c =
 pub returns-in-Ok-Some-clause-contents : goal.returns-in-Ok-Some-clause-contents
 returns-in-Ok-Some-clause-contents g c =
     let (bytes, waits, held) = returns-in-Ok-Some-clause-takes g c in none_twice _ _ _ bytes _ waits held
+
+pub invariant_of-self-in-Err : goal.invariant_of-self-in-Err
+invariant_of-self-in-Err g c = grind arith
+
+pub invariant_of-self-in-Ok-None : goal.invariant_of-self-in-Ok-None
+invariant_of-self-in-Ok-None g c = grind arith
+
+pub invariant_of-self-in-Ok-Some : goal.invariant_of-self-in-Ok-Some
+invariant_of-self-in-Ok-Some g c = grind (arith, common_steps)
+
+pub invariant_of-self-then-is_empty : goal.invariant_of-self-then-is_empty
+invariant_of-self-then-is_empty g c = grind arith
+
+pub overflow_add-self : goal.overflow_add-self
+overflow_add-self g c = grind arith

@@ -2,6 +2,7 @@ use Rattle.std.proofs.Common.{◌≤◌, ℕ, refl, sym, ap, subst, inl, arith}
 use Rattle.std.specs.Option.{is_some}
 use Rattle.std.specs.Prelude.{IsSome}
 use Rattle.std.proofs.KnownBytes.{Keeps-refl, append_known-kept}
+use Rattle.std.proofs.lemmas.Grind.{common_steps}
 use Rattle.wire.specs.Outgoing.{waits_out}
 use Rattle.wire.proofs.ReadAhead.{none_failed}
 use Rattle.wire.proofs.outbox.OutboxWrite.write.Goals as goal
@@ -63,3 +64,24 @@ returns-in-Ok-Some-clause-refused g c = tt
 
 pub returns-in_err-keep-clause-failed : goal.returns-in_err-keep-clause-failed
 returns-in_err-keep-clause-failed g c = λ some. absurd (none_failed c.args.self.now.fault (ap is_some c.in_default.is) some)
+
+pub invariant_of-self : goal.invariant_of-self
+invariant_of-self g c = grind arith
+
+pub invariant_of-self-in-Err : goal.invariant_of-self-in-Err
+invariant_of-self-in-Err g c = grind arith
+
+pub returns-clause-bytes : goal.returns-clause-bytes
+returns-clause-bytes g c = grind (arith, common_steps)
+
+pub returns-in-Ok-Some-clause-bound : goal.returns-in-Ok-Some-clause-bound
+returns-in-Ok-Some-clause-bound g c = grind arith
+
+pub returns-in-Ok-Some-clause-bytes : goal.returns-in-Ok-Some-clause-bytes
+returns-in-Ok-Some-clause-bytes g c = grind (arith, common_steps)
+
+pub returns-in-Ok-Some-clause-some : goal.returns-in-Ok-Some-clause-some
+returns-in-Ok-Some-clause-some g c = grind arith
+
+pub returns-in_err-keep-clause-bytes : goal.returns-in_err-keep-clause-bytes
+returns-in_err-keep-clause-bytes g c = grind arith

@@ -1,0 +1,5 @@
+use Rattle.std.proofs.Common.{arith}
+use Rattle.sigv4.proofs.moment.Moment.text.Goals as goal
+
+pub returns : goal.returns
+returns c = grind arith

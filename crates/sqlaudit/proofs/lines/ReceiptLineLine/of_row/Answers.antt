@@ -1,0 +1,5 @@
+use Rattle.std.proofs.Common.{arith}
+use Rattle.sqlaudit.proofs.lines.ReceiptLineLine.of_row.Goals as goal
+
+pub returns : goal.returns
+returns c = grind arith
