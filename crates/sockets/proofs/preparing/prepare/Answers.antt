@@ -6,9 +6,3 @@ returns-clause-free g c = grind arith
 
 pub returns-clause-room : goal.returns-clause-room
 returns-clause-room g c = grind arith
-
-pub returns-in_err-book-clause-free : goal.returns-in_err-book-clause-free
-returns-in_err-book-clause-free g c = grind arith
-
-pub returns-in_err-book-clause-room : goal.returns-in_err-book-clause-room
-returns-in_err-book-clause-room g c = grind arith
