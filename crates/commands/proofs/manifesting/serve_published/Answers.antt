@@ -1,4 +1,4 @@
-use Rattle.std.proofs.Common.{◌≡◌, ap, inr, refl, subst, sym, ◌∙◌, ⊎_elim}
+use Rattle.std.proofs.Common.{◌≡◌, ap, inr, refl, subst, sym, ◌∙◌, ⊎_elim, arith}
 use Rattle.publishing.specs.declared.publisher.Publisher.{Publisher}
 use Rattle.commands.proofs.Crowds.{less}
 use Rattle.commands.proofs.Landing.{looks, more, unasked, within}
@@ -32,3 +32,6 @@ returns g c =
       whole = λ whole. whole;
     })
     c.serve_at-session-2.ensures))
+
+pub fact_in-format : goal.fact_in-format
+fact_in-format g c = grind arith

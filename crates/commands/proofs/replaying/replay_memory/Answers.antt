@@ -1,4 +1,4 @@
-use Rattle.std.proofs.Common.{subst}
+use Rattle.std.proofs.Common.{subst, arith}
 use Rattle.boxes.specs.FirstState.{first_state}
 use Rattle.std.specs.Prelude.{pos}
 use Rattle.office.specs.Replays.{InTurn, TakesTurns}
@@ -25,3 +25,15 @@ returns-in-Ok-replay_in_memory g c = rw (← c.new-writer.ensures.inner) (λ don
       after = turns.0;
       turn = rw (← c.as_slice-streams.ensures.value) (handed _ _ (g.W.Write.contents out) turn keeps);
     })
+
+pub replay_in_memory-requires-clause-id : goal.replay_in_memory-requires-clause-id
+replay_in_memory-requires-clause-id g c = grind arith
+
+pub replay_in_memory-requires-clause-secret : goal.replay_in_memory-requires-clause-secret
+replay_in_memory-requires-clause-secret g c = grind arith
+
+pub returns-in-Err : goal.returns-in-Err
+returns-in-Err g c = grind arith
+
+pub returns-in-Err-replay_in_memory : goal.returns-in-Err-replay_in_memory
+returns-in-Err-replay_in_memory g c = grind arith

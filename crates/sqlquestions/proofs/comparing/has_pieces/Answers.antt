@@ -74,3 +74,12 @@ returns-clause-still g c = λ v tables ours pends. c.loop-piece.invariant.1.stil
 
 pub returns-clause-rest : goal.returns-clause-rest
 returns-clause-rest g c = unmoved_goes c.loop-piece.invariant.0 (unmoved c.loop-piece.invariant.1) _
+
+pub loop-piece-smaller : goal.loop-piece-smaller
+loop-piece-smaller g c = grind arith
+
+pub returns-in-None-clause-found : goal.returns-in-None-clause-found
+returns-in-None-clause-found g c = grind arith
+
+pub returns-in-None-clause-still : goal.returns-in-None-clause-still
+returns-in-None-clause-still g c = grind arith

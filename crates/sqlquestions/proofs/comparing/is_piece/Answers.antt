@@ -51,3 +51,12 @@ returns-in-Some-clause-rest g c = succeeded _ c.in_ok-piece.ensures.rest
 
 pub returns-in-None-clause-rest : goal.returns-in-None-clause-rest
 returns-in-None-clause-rest g c = succeeded _ c.in_ok-piece.ensures.rest
+
+pub returns-in-None-clause-still : goal.returns-in-None-clause-still
+returns-in-None-clause-still g c = grind arith
+
+pub returns-in-Some-clause-still : goal.returns-in-Some-clause-still
+returns-in-Some-clause-still g c = grind arith
+
+pub returns-in_err-piece-clause-found : goal.returns-in_err-piece-clause-found
+returns-in_err-piece-clause-found g c = grind arith

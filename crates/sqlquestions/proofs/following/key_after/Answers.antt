@@ -18,3 +18,6 @@ returns-clause-found g c v tables ours pends inside clean =
 
 pub returns-clause-still : goal.returns-clause-still
 returns-clause-still g c v tables ours pends = c.select_text.ensures.still v tables (asks_of v ours key_after key_after_command key_after_is).says.plain pends
+
+pub returns-clause-rest : goal.returns-clause-rest
+returns-clause-rest g c = grind arith

@@ -18,3 +18,6 @@ returns-clause-found g c tables pends inside clean =
 
 pub returns-clause-still : goal.returns-clause-still
 returns-clause-still g c tables pends = c.select_text.ensures.still v2 tables limit_after_is.says.plain pends
+
+pub returns-clause-rest : goal.returns-clause-rest
+returns-clause-rest g c = grind arith

@@ -1,3 +1,4 @@
+use Rattle.std.proofs.Common.{arith}
 use Rattle.sqltables.proofs.Onward.{failed, succeeded}
 use Rattle.sqlquestions.proofs.following.select_text.Goals as goal
 
@@ -12,3 +13,9 @@ returns-in_err-read_text-clause-rest g c = failed c.from_residual-in_err-read_te
 
 pub returns-clause-rest : goal.returns-clause-rest
 returns-clause-rest g c = succeeded _ c.in_ok-row.ensures.rest
+
+pub returns-clause-shown : goal.returns-clause-shown
+returns-clause-shown g c = grind arith
+
+pub returns-in_default-clause-shown : goal.returns-in_default-clause-shown
+returns-in_default-clause-shown g c = grind arith

@@ -28,3 +28,21 @@ returns-in-Some-clause-still g c v tables ours pends clean inside is_open =
     let was_open = (c.read_file.ensures.rest.uncommitted clean was_in).was_open is_open in
     let same = c.in_ok-bytes.ensures.same v ours (λ o. (pends early was_in o).schema) was_in clean in
     subst (λ db. Holds v db tables) (sym same) (pends early was_in was_open)
+
+pub returns-in-None-clause-found : goal.returns-in-None-clause-found
+returns-in-None-clause-found g c = grind arith
+
+pub returns-in-None-clause-rest : goal.returns-in-None-clause-rest
+returns-in-None-clause-rest g c = grind arith
+
+pub returns-in-None-clause-still : goal.returns-in-None-clause-still
+returns-in-None-clause-still g c = grind arith
+
+pub returns-in-Some-clause-rest : goal.returns-in-Some-clause-rest
+returns-in-Some-clause-rest g c = grind arith
+
+pub returns-in_err-bytes-clause-found : goal.returns-in_err-bytes-clause-found
+returns-in_err-bytes-clause-found g c = grind arith
+
+pub returns-in_err-bytes-clause-rest : goal.returns-in_err-bytes-clause-rest
+returns-in_err-bytes-clause-rest g c = grind arith

@@ -1,3 +1,4 @@
+use Rattle.std.proofs.Common.{arith}
 use Rattle.sqltables.proofs.Onward.{failed, succeeded}
 use Rattle.sqlquestions.proofs.questions.file_number.Goals as goal
 
@@ -12,3 +13,9 @@ returns-in_err-get-clause-rest g c = failed c.from_residual-in_err-get.result c.
 
 pub returns-clause-rest : goal.returns-clause-rest
 returns-clause-rest g c = succeeded _ c.in_ok-row.ensures.rest
+
+pub returns-clause-found : goal.returns-clause-found
+returns-clause-found g c = grind arith
+
+pub returns-in_default-clause-found : goal.returns-in_default-clause-found
+returns-in_default-clause-found g c = grind arith

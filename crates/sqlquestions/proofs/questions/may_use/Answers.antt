@@ -1,6 +1,7 @@
-use Rattle.std.proofs.Common.{◌≡◌, true, false, List, [], ◌∷◌, length, inl, IfOk, IsTrue, rules, refl, sym, ap, subst, ◌∙◌}
+use Rattle.std.proofs.Common.{◌≡◌, true, false, List, [], ◌∷◌, length, inl, IfOk, IsTrue, rules, refl, sym, ap, subst, ◌∙◌, arith}
 use Rattle.std.specs.Bool.{◌==◌}
 use Rattle.std.specs.Prelude.{◌↔◌, vec_len}
+use Rattle.std.proofs.lemmas.Grind.{common_steps}
 use Rattle.sqlite_value.specs.Order.{Row}
 use Rattle.sqlite_rules.specs.Lists.{Has}
 use Rattle.sqltables.specs.Questions.{ShowsText}
@@ -31,3 +32,6 @@ returns-then-is_empty-clause-rest g c = succeeded _ c.in_ok-rows.ensures.rest
 
 pub returns-clause-rest : goal.returns-clause-rest
 returns-clause-rest g c = followed c.shows_text.result c.in_ok-rows.ensures.rest
+
+pub returns-then-is_empty-clause-found : goal.returns-then-is_empty-clause-found
+returns-then-is_empty-clause-found g c = grind (arith, common_steps)

@@ -29,3 +29,12 @@ returns-in_err-last-clause-rest g c = failed c.from_residual-in_err-last.result 
 
 pub returns-in-Some-checked_add-clause-rest : goal.returns-in-Some-checked_add-clause-rest
 returns-in-Some-checked_add-clause-rest g c = succeeded _ c.in_ok-rows.ensures.rest
+
+pub returns-clause-found : goal.returns-clause-found
+returns-clause-found g c = grind arith
+
+pub returns-clause-rest : goal.returns-clause-rest
+returns-clause-rest g c = grind arith
+
+pub returns-clause-still : goal.returns-clause-still
+returns-clause-still g c = grind arith

@@ -71,3 +71,12 @@ returns-clause-still g c = λ v tables ours pends. c.loop-tx.invariant.3.still v
 
 pub returns-clause-rest : goal.returns-clause-rest
 returns-clause-rest g c = unmoved_goes c.loop-tx.invariant.2 c.loop-tx.invariant.3 _
+
+pub loop-tx-init : goal.loop-tx-init
+loop-tx-init g c = grind arith
+
+pub returns-in-None-clause-found : goal.returns-in-None-clause-found
+returns-in-None-clause-found g c = grind arith
+
+pub returns-in-None-clause-still : goal.returns-in-None-clause-still
+returns-in-None-clause-still g c = grind arith

@@ -20,3 +20,6 @@ returns-clause-still g c tables pends =
     let new = state g.S.Store c.query.new.tx.conn.now in
     let early : HasCleanDisk new → HasCleanDisk old = λ clean. omega (arith, c.query.ensures.rest.survives.clean) in
     query_stays (λ v. v.items) v2 tables select_limits _ old new c.query.result select_limits_is.says.plain early pends c.query.ensures.ok
+
+pub returns-clause-rest : goal.returns-clause-rest
+returns-clause-rest g c = grind arith

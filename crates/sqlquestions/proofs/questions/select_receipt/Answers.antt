@@ -26,3 +26,9 @@ returns-clause-still g c v tables ours pends = c.select_row.ensures.still v tabl
 
 pub returns-in_default-clause-rest : goal.returns-in_default-clause-rest
 returns-in_default-clause-rest g c = refused c.args.tx.now
+
+pub returns-clause-rest : goal.returns-clause-rest
+returns-clause-rest g c = grind arith
+
+pub returns-in_default-clause-found : goal.returns-in_default-clause-found
+returns-in_default-clause-found g c = grind arith

@@ -19,3 +19,12 @@ returns-clause-still g c v tables plain pends clean inside is_open =
     let new = state g.S.Store c.query.new.tx.conn.now in
     let early : HasCleanDisk old = omega (arith, c.query.ensures.rest.survives.clean) in
     still_pends v tables c.args.sql.now _ old new c.in_ok-rows.rows.items plain early pends (c.in_ok-rows.ensures.ok clean) inside
+
+pub returns-clause-rest : goal.returns-clause-rest
+returns-clause-rest g c = grind arith
+
+pub returns-in_err-rows-clause-rest : goal.returns-in_err-rows-clause-rest
+returns-in_err-rows-clause-rest g c = grind arith
+
+pub returns-in_err-rows-clause-shown : goal.returns-in_err-rows-clause-shown
+returns-in_err-rows-clause-shown g c = grind arith

@@ -17,3 +17,6 @@ returns-clause-found g c v tables ours pends inside clean =
 
 pub returns-clause-still : goal.returns-clause-still
 returns-clause-still g c v tables ours pends = c.select_row.ensures.still v tables (asks_of v ours select_totals select_totals_command select_totals_is).says.plain pends
+
+pub returns-clause-rest : goal.returns-clause-rest
+returns-clause-rest g c = grind arith

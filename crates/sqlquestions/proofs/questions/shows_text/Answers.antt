@@ -1,5 +1,6 @@
-use Rattle.std.proofs.Common.{◌≡◌, ◌⊎◌, inl, inr, ◌+◌, ◌++◌, [], ◌∷◌, ℕ, zero, suc, List, Bool, true, false, take, refl, sym, ap, subst, ◌∙◌}
+use Rattle.std.proofs.Common.{◌≡◌, ◌⊎◌, inl, inr, ◌+◌, ◌++◌, [], ◌∷◌, ℕ, zero, suc, List, Bool, true, false, take, refl, sym, ap, subst, ◌∙◌, arith}
 use Rattle.std.proofs.lemmas.List.{take_more}
+use Rattle.std.proofs.lemmas.Grind.{common_steps}
 use Rattle.sigtext.specs.Bytes.{same_bytes}
 use Rattle.sqlite_rules.specs.Lists.{Has}
 use Rattle.sqlite_rules.proofs.ListLemmas.{has_right}
@@ -48,3 +49,6 @@ returns-then-eq c =
       λ t. record { row = item; there = has_taken (at + 1) rows item there; first = reads ∙ sym c.as_slice.ensures.value ∙ same },
       λ shows. refl,
     )
+
+pub returns : goal.returns
+returns c = grind (arith, common_steps)

@@ -34,3 +34,6 @@ returns-in_err-bytes-clause-rest g c =
 
 pub returns-clause-rest : goal.returns-clause-rest
 returns-clause-rest g c = and_then (λ began. began) (λ running. (running, running.0)) c.in_ok-receipt.ensures.rest (succeeded _ c.in_ok-bytes.ensures.rest)
+
+pub returns-in_default-clause-found : goal.returns-in_default-clause-found
+returns-in_default-clause-found g c = grind arith

@@ -33,3 +33,9 @@ returns-in-Some-clause-rest g c = begun_then c.in_ok-number.ensures.rest c.recei
 
 pub returns-in-None-clause-rest : goal.returns-in-None-clause-rest
 returns-in-None-clause-rest g c = succeeded _ c.in_ok-number.ensures.rest
+
+pub returns-in-None-clause-found : goal.returns-in-None-clause-found
+returns-in-None-clause-found g c = grind arith
+
+pub returns-in_err-number-clause-found : goal.returns-in_err-number-clause-found
+returns-in_err-number-clause-found g c = grind arith

@@ -1,4 +1,4 @@
-use Rattle.std.proofs.Common.{refl}
+use Rattle.std.proofs.Common.{refl, arith}
 use Rattle.std.specs.Prelude.{IsOk}
 use Rattle.sqlite.specs.WalFiles.{image_at}
 use Rattle.commands.specs.Listing.{IsManifest}
@@ -70,3 +70,69 @@ returns-in-Migrate-clause-office g c ours =
     let so : IsOk c.spoken-in-Migrate.result.result → IsOk c.do_migrate.result.gain.result = λ done. (c.spoken-in-Migrate.ensures.done done).0 in
     rw (c.in-Migrate.is, c.spoken-in-Migrate.ensures.left, c.spoken-in-Migrate.ensures.out)
     (λ clean. migrates_less so (image_at g.S.Start) c.args.start c.do_migrate.result.left g.W.Write.contents c.args.out c.do_migrate.result.gain.out (c.do_migrate.ensures.ran ours clean))
+
+pub returns-in-Compare-clause-done : goal.returns-in-Compare-clause-done
+returns-in-Compare-clause-done g c = grind arith
+
+pub returns-in-Compare-clause-heard : goal.returns-in-Compare-clause-heard
+returns-in-Compare-clause-heard g c = grind arith
+
+pub returns-in-Desk-clause-done : goal.returns-in-Desk-clause-done
+returns-in-Desk-clause-done g c = grind arith
+
+pub returns-in-Desk-clause-heard : goal.returns-in-Desk-clause-heard
+returns-in-Desk-clause-heard g c = grind arith
+
+pub returns-in-Export-clause-done : goal.returns-in-Export-clause-done
+returns-in-Export-clause-done g c = grind arith
+
+pub returns-in-Export-clause-heard : goal.returns-in-Export-clause-heard
+returns-in-Export-clause-heard g c = grind arith
+
+pub returns-in-Init-clause-done : goal.returns-in-Init-clause-done
+returns-in-Init-clause-done g c = grind arith
+
+pub returns-in-Init-clause-heard : goal.returns-in-Init-clause-heard
+returns-in-Init-clause-heard g c = grind arith
+
+pub returns-in-Link-clause-done : goal.returns-in-Link-clause-done
+returns-in-Link-clause-done g c = grind arith
+
+pub returns-in-Link-clause-heard : goal.returns-in-Link-clause-heard
+returns-in-Link-clause-heard g c = grind arith
+
+pub returns-in-Links-clause-done : goal.returns-in-Links-clause-done
+returns-in-Links-clause-done g c = grind arith
+
+pub returns-in-Links-clause-heard : goal.returns-in-Links-clause-heard
+returns-in-Links-clause-heard g c = grind arith
+
+pub returns-in-List-clause-done : goal.returns-in-List-clause-done
+returns-in-List-clause-done g c = grind arith
+
+pub returns-in-List-clause-heard : goal.returns-in-List-clause-heard
+returns-in-List-clause-heard g c = grind arith
+
+pub returns-in-Manifest-clause-done : goal.returns-in-Manifest-clause-done
+returns-in-Manifest-clause-done g c = grind arith
+
+pub returns-in-Manifest-clause-heard : goal.returns-in-Manifest-clause-heard
+returns-in-Manifest-clause-heard g c = grind arith
+
+pub returns-in-Migrate-clause-done : goal.returns-in-Migrate-clause-done
+returns-in-Migrate-clause-done g c = grind arith
+
+pub returns-in-Migrate-clause-heard : goal.returns-in-Migrate-clause-heard
+returns-in-Migrate-clause-heard g c = grind arith
+
+pub returns-in-Replay-clause-done : goal.returns-in-Replay-clause-done
+returns-in-Replay-clause-done g c = grind arith
+
+pub returns-in-Replay-clause-heard : goal.returns-in-Replay-clause-heard
+returns-in-Replay-clause-heard g c = grind arith
+
+pub returns-in-Serve-clause-done : goal.returns-in-Serve-clause-done
+returns-in-Serve-clause-done g c = grind arith
+
+pub returns-in-Serve-clause-heard : goal.returns-in-Serve-clause-heard
+returns-in-Serve-clause-heard g c = grind arith

@@ -1,3 +1,4 @@
+use Rattle.std.proofs.Common.{arith}
 use Rattle.std.specs.Prelude.{IsOk, option_map}
 use Rattle.sqlite.specs.WalFiles.{image_at}
 use Rattle.commands.specs.Obeying.{TellsLine}
@@ -14,3 +15,18 @@ returns-clause-ran g c ours clean =
     run_more (TellsLine g.W.Write.contents command (IsOk gain.result) c.args.out gain.out)
     (Commands (g.R.Read.remaining c.args.input) c.args.words.now g.W.Write.contents (IsOk gain.result) c.args.out gain.out)
     idle idle (λ s after asked it. record { command = command; is_command = c.in-Ok.ensures; tells = it }) (λ it. it) (image_at g.S.Start) c.args.start c.work_over.result.left (c.work_over.ensures.ran ours clean)
+
+pub returns-in-Err-clause-opened : goal.returns-in-Err-clause-opened
+returns-in-Err-clause-opened g c = grind arith
+
+pub returns-in-Err-clause-ran : goal.returns-in-Err-clause-ran
+returns-in-Err-clause-ran g c = grind arith
+
+pub returns-in-Err-read_command-clause-opened : goal.returns-in-Err-read_command-clause-opened
+returns-in-Err-read_command-clause-opened g c = grind arith
+
+pub returns-in-Err-read_command-clause-ran : goal.returns-in-Err-read_command-clause-ran
+returns-in-Err-read_command-clause-ran g c = grind arith
+
+pub work_over-requires-text-file : goal.work_over-requires-text-file
+work_over-requires-text-file g c = grind arith

@@ -1,4 +1,4 @@
-use Rattle.std.proofs.Common.{⊎_elim, List, length, rules, subst}
+use Rattle.std.proofs.Common.{⊎_elim, List, length, rules, subst, arith}
 use Rattle.std.specs.Borrow.{Bor}
 use Rattle.std.specs.Prelude.{◌≢◌, IsOk, ℕ}
 use Rattle.sqlite.specs.WalFiles.{image_at}
@@ -33,3 +33,27 @@ returns-clause-opened g c done other closed =
     let gain = c.work_over.result.gain in
     ⊎_elim (λ (idle : HandsBack (IsOk gain.result) c.args.out gain.out). absurd (idle.0 done))
     (λ (close : IsOk c.work_over.result.closed → purpose.Change ≢ purpose.Look → IsClosed c.work_over.result.left). close closed (λ same. (let is = same in cc))) c.work_over.ensures.closed
+
+pub returns-clause-memory : goal.returns-clause-memory
+returns-clause-memory g c = grind arith
+
+pub returns-in_default-clause-memory : goal.returns-in_default-clause-memory
+returns-in_default-clause-memory g c = grind arith
+
+pub returns-in_default-clause-opened : goal.returns-in_default-clause-opened
+returns-in_default-clause-opened g c = grind arith
+
+pub returns-in_default-clause-ran : goal.returns-in_default-clause-ran
+returns-in_default-clause-ran g c = grind arith
+
+pub returns-then-starts_with-clause-memory : goal.returns-then-starts_with-clause-memory
+returns-then-starts_with-clause-memory g c = grind arith
+
+pub returns-then-starts_with-clause-opened : goal.returns-then-starts_with-clause-opened
+returns-then-starts_with-clause-opened g c = grind arith
+
+pub returns-then-starts_with-clause-ran : goal.returns-then-starts_with-clause-ran
+returns-then-starts_with-clause-ran g c = grind arith
+
+pub work_over-requires-text-file : goal.work_over-requires-text-file
+work_over-requires-text-file g c = grind arith
