@@ -1,4 +1,4 @@
-use Rattle.std.proofs.Common.{rules}
+use Rattle.std.proofs.Common.{rules, arith}
 use Rattle.sqlite.specs.Held.{state}
 use Rattle.sqltables.proofs.Runs.{query_keeps, query_runs}
 use Rattle.sqltables.proofs.calls.query.Goals as goal
@@ -13,3 +13,6 @@ returns-clause-rest g c =
       uncommitted = λ clean inside. query_keeps (λ v. v.items) _ _ old new c.query_all.result inside (c.query_all.ensures.ok clean) (c.query_all.ensures.err clean);
       survives = c.query_all.ensures.survives;
     }
+
+pub returns-clause-ok : goal.returns-clause-ok
+returns-clause-ok g c = grind arith

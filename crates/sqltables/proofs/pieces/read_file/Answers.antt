@@ -66,3 +66,69 @@ returns-in-None-clause-rest g c = followed _ (gathered_then c.loop-tx.invariant.
 
 pub returns-clause-rest : goal.returns-clause-rest
 returns-clause-rest g c = gathered_goes c.loop-tx.invariant.0 c.loop-tx.invariant.1 _
+
+pub loop-tx-smaller : goal.loop-tx-smaller
+loop-tx-smaller g c = grind arith
+
+pub overflow_sub-rest : goal.overflow_sub-rest
+overflow_sub-rest g c = grind arith
+
+pub returns-clause-mode : goal.returns-clause-mode
+returns-clause-mode g c = grind arith
+
+pub returns-clause-opened : goal.returns-clause-opened
+returns-clause-opened g c = grind arith
+
+pub returns-clause-read : goal.returns-clause-read
+returns-clause-read g c = grind arith
+
+pub returns-clause-same : goal.returns-clause-same
+returns-clause-same g c = grind arith
+
+pub returns-in-None-clause-mode : goal.returns-in-None-clause-mode
+returns-in-None-clause-mode g c = grind arith
+
+pub returns-in-None-clause-opened : goal.returns-in-None-clause-opened
+returns-in-None-clause-opened g c = grind arith
+
+pub returns-in-None-clause-read : goal.returns-in-None-clause-read
+returns-in-None-clause-read g c = grind arith
+
+pub returns-in-None-clause-same : goal.returns-in-None-clause-same
+returns-in-None-clause-same g c = grind arith
+
+pub returns-in_default-clause-mode : goal.returns-in_default-clause-mode
+returns-in_default-clause-mode g c = grind arith
+
+pub returns-in_default-clause-opened : goal.returns-in_default-clause-opened
+returns-in_default-clause-opened g c = grind arith
+
+pub returns-in_default-clause-same : goal.returns-in_default-clause-same
+returns-in_default-clause-same g c = grind arith
+
+pub returns-in_err-bytes-clause-mode : goal.returns-in_err-bytes-clause-mode
+returns-in_err-bytes-clause-mode g c = grind arith
+
+pub returns-in_err-bytes-clause-opened : goal.returns-in_err-bytes-clause-opened
+returns-in_err-bytes-clause-opened g c = grind arith
+
+pub returns-in_err-bytes-clause-read : goal.returns-in_err-bytes-clause-read
+returns-in_err-bytes-clause-read g c = grind arith
+
+pub returns-in_err-bytes-clause-rest : goal.returns-in_err-bytes-clause-rest
+returns-in_err-bytes-clause-rest g c = grind arith
+
+pub returns-in_err-bytes-clause-same : goal.returns-in_err-bytes-clause-same
+returns-in_err-bytes-clause-same g c = grind arith
+
+pub returns-then-len-min-clause-mode : goal.returns-then-len-min-clause-mode
+returns-then-len-min-clause-mode g c = grind arith
+
+pub returns-then-len-min-clause-opened : goal.returns-then-len-min-clause-opened
+returns-then-len-min-clause-opened g c = grind arith
+
+pub returns-then-len-min-clause-read : goal.returns-then-len-min-clause-read
+returns-then-len-min-clause-read g c = grind arith
+
+pub returns-then-len-min-clause-same : goal.returns-then-len-min-clause-same
+returns-then-len-min-clause-same g c = grind arith

@@ -1,4 +1,4 @@
-use Rattle.std.proofs.Common.{◌≡◌, Some, slice_get, sym, ap, ◌∙◌}
+use Rattle.std.proofs.Common.{◌≡◌, Some, slice_get, sym, ap, ◌∙◌, arith}
 use Rattle.sqlite_rules.proofs.ListLemmas.{has_got}
 use Rattle.sqlite.specs.Held.{state}
 use Rattle.boxes.specs.State.{Place}
@@ -52,3 +52,12 @@ returns-clause-mode g c clean =
 pub returns-in_default-clause-mode : goal.returns-in_default-clause-mode
 returns-in_default-clause-mode g c clean =
     (shown_runs select_piece _ (state g.S.Store c.args.tx.now.conn.now) (state g.S.Store c.query.new.tx.conn.now) c.in_ok-rows.rows.items (c.in_ok-rows.ensures.ok clean)).2
+
+pub returns-clause-rest : goal.returns-clause-rest
+returns-clause-rest g c = grind arith
+
+pub returns-in_default-clause-rest : goal.returns-in_default-clause-rest
+returns-in_default-clause-rest g c = grind arith
+
+pub returns-in_err-rows-clause-rest : goal.returns-in_err-rows-clause-rest
+returns-in_err-rows-clause-rest g c = grind arith

@@ -1,6 +1,7 @@
 use Rattle.std.proofs.Common.{◌≡◌, ℕ, ◌-◌, ◌*◌, ◌<◌, ◌≤◌, List, length, min, take, drop, Some, arith, rules, refl, sym, ap, ◌∙◌}
 use Rattle.std.proofs.lemmas.Bool.{lt-ltb}
 use Rattle.std.proofs.lemmas.List.{length-drop, take_all, take_min}
+use Rattle.std.proofs.lemmas.Grind.{common_steps}
 use Rattle.sqltables.proofs.Gathering.{no_piece}
 use Rattle.sqltables.proofs.staging.Pieces.piece.Goals as goal
 
@@ -28,3 +29,6 @@ returns c =
     let left = take_rest c.deref.result.now (c.args.at * 65536) c.min.result c.min.ensures in
     ap Some (left ∙ ap (λ l. take 65536 (drop (c.args.at * 65536) l)) same ∙ ap (λ n. take 65536 (drop n bytes)) start)
     ∙ sym (rw (lt-ltb (65536 * c.args.at) (length bytes) within) refl)
+
+pub slice_bounds-result-end : goal.slice_bounds-result-end
+slice_bounds-result-end c = grind (arith, common_steps)
