@@ -7,9 +7,6 @@ returns-in-Err-clause-next g c = λ s meant. tt
 pub returns-in-Err-clause-fault : goal.returns-in-Err-clause-fault
 returns-in-Err-clause-fault g c = tt
 
-pub returns-in-Err : goal.returns-in-Err
-returns-in-Err g c = grind arith
-
 pub returns-in-Err-Keep-clause-stays : goal.returns-in-Err-Keep-clause-stays
 returns-in-Err-Keep-clause-stays g c = grind arith
 

@@ -14,9 +14,6 @@ returns-in-Err-clause-sums_count g c = refl
 pub returns-in-Err-clause-keeper : goal.returns-in-Err-clause-keeper
 returns-in-Err-clause-keeper g c = refl
 
-pub returns-in-Err : goal.returns-in-Err
-returns-in-Err g c = grind arith
-
 pub returns-in-Err-Write-clause-files_count : goal.returns-in-Err-Write-clause-files_count
 returns-in-Err-Write-clause-files_count g c = grind arith
 
