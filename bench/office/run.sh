@@ -13,7 +13,7 @@ if [ $# -lt 2 ]; then trap 'rm -rf "$work"' EXIT; fi
 
 mkdir -p "$work/crates/officebench/src"
 cp "$here/main.rt.txt" "$work/crates/officebench/src/main.rt"
-for name in sigtext sigv4 links boxes keeper wire seats desk office; do
+for name in sigtext sigv4 links boxes shelf wire desk office; do
     mkdir -p "$work/crates/$name"
     for part in src specs proofs; do rm -rf "$work/crates/$name/$part"; done
     for part in src specs proofs out; do
@@ -23,7 +23,7 @@ for name in sigtext sigv4 links boxes keeper wire seats desk office; do
     done
     grep "^$name:" "$top/crates.txt"
 done >"$work/crates.txt"
-echo "officebench: boxes keeper sigv4 seats office anyhow" >>"$work/crates.txt"
+echo "officebench: boxes shelf sigv4 wire office anyhow" >>"$work/crates.txt"
 
 # The streams themselves upload 501 files.
 small=499

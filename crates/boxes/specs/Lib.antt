@@ -13,3 +13,6 @@ pub mod Changes
 pub mod Views
 pub mod Deciding
 pub mod Maps
+pub mod Keeping
+pub mod Bound
+pub mod Next

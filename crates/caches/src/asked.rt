@@ -1,9 +1,8 @@
 //! Which calls reach the inner keeper.
 ghost use Rattle.std.specs.Prelude.{◌≤◌, length};
 
-use boxes::{Change, Command, Mode, NewFile, Role};
-use cache::CachedKeeper;
-use keeper::{KeepFault, Keeper};
+use boxes::{Change, Command, KeepFault, Keeper, Mode, NewFile, Role};
+use layers::CachedKeeper;
 use shelf::Shelf;
 use std::alloc::Global;
 use std::test::Fail;

@@ -2,9 +2,9 @@
 use Rattle.std.proofs.Common.{◌≡◌, ◌∙◌, ◌⊎◌, ⊎_elim, inl, inr, Result, refl, sym, subst, ℕ}
 use Rattle.sigtext.specs.Request.{Request}
 use Rattle.boxes.specs.State.{State}
-use Rattle.keeper.specs.Bound.{StaysBy}
-use Rattle.keeper.specs.declared.keep.KeepFault.{KeepFault}
-use Rattle.keeper.specs.declared.keep.Keeper.{Ghosts}
+use Rattle.boxes.specs.Bound.{StaysBy}
+use Rattle.boxes.specs.declared.keep.KeepFault.{KeepFault}
+use Rattle.boxes.specs.declared.keep.Keeper.{Ghosts}
 use Rattle.office.specs.Crashes.{AddsAsked, AddsStanding, Lasts, LastsThrough, changed, changed_once, never_changed, unchanged, Survives, no_change, some_change}
 use Rattle.office.specs.Crashes as crash
 use Rattle.office.specs.Premise.{WasKept}

@@ -2,7 +2,7 @@
 use Rattle.std.proofs.Common.{◌≡◌, ◌⊎◌, ℕ, List, Option, Some, None, Result, Ok, Err, refl, inl, inr}
 use Rattle.std.specs.Prelude.{OnErr}
 use Rattle.boxes.specs.State.{State}
-use Rattle.keeper.specs.declared.keep.Keeper.{Ghosts}
+use Rattle.boxes.specs.declared.keep.Keeper.{Ghosts}
 use Rattle.office.specs.declared.requests.commanding.DeskFault.{DeskFault}
 use Rattle.office.specs.declared.requests.commanding.DeskFault.TheVariants as fault
 use Rattle.office.specs.Crashes.{Endures, IsToldBy, UndoneLasts}

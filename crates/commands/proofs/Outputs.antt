@@ -8,9 +8,9 @@ use Rattle.std.specs.Io.KnownBytes.{Appends, Keeps}
 use Rattle.boxes.specs.Rows.{numbered}
 use Rattle.boxes.specs.State.{Receipt, State}
 use Rattle.wire.specs.Sending.{Sends}
-use Rattle.manifests.specs.Lists.{AnswersList, IsTable}
-use Rattle.manifests.specs.Manifests.{IsComparisonLine, IsManifestRow, IsReceiptLine, WritesManifest, findings_head, manifest_head}
-use Rattle.manifests.specs.declared.list_fault.ListFault.{ListFault}
+use Rattle.lists.specs.Lists.{AnswersList, IsTable}
+use Rattle.lists.specs.Manifests.{IsComparisonLine, IsManifestRow, IsReceiptLine, WritesManifest, findings_head, manifest_head}
+use Rattle.lists.specs.declared.list_fault.ListFault.{ListFault}
 use Rattle.lists.specs.Boxes.{IsBoxLine, boxes_head}
 use Rattle.lists.specs.Files.{IsFileLine, files_head}
 use Rattle.lists.specs.Keys.{IsKeyLine, keys_head}

@@ -6,7 +6,7 @@ use Rattle.office.specs.Crashes.{IsToldBy}
 use Rattle.office.specs.Crashes as crash
 use Rattle.office.specs.Interleaved.{HaveGivenUp, Thread, Turn}
 use Rattle.office.specs.Sessions.{Connection, GaveUpIn, Run}
-use Rattle.seats.specs.declared.session.SessionEnd.TheVariants.{ReadFault}
+use Rattle.wire.specs.declared.session.SessionEnd.TheVariants.{ReadFault}
 
 pub data Asked : Type 0 where
   -- nothing that changes an office, or nothing that is not kept for good

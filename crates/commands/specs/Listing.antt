@@ -4,8 +4,8 @@ use Rattle.std.specs.FinMap.{entries}
 use Rattle.std.specs.Io.KnownBytes.{Appends}
 use Rattle.boxes.specs.Rows.{numbered}
 use Rattle.boxes.specs.State.{State}
-use Rattle.manifests.specs.Lists.{AnswersList, IsTable}
-use Rattle.manifests.specs.Manifests.{IsComparisonLine, IsManifestRow, IsReceiptLine, findings_head, manifest_head}
+use Rattle.lists.specs.Lists.{AnswersList, IsTable}
+use Rattle.lists.specs.Manifests.{IsComparisonLine, IsManifestRow, IsReceiptLine, findings_head, manifest_head}
 use Rattle.lists.specs.Boxes.{IsBoxLine, boxes_head}
 use Rattle.lists.specs.Files.{IsFileLine, files_head}
 use Rattle.lists.specs.Keys.{IsKeyLine, keys_head}

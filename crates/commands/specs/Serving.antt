@@ -5,12 +5,12 @@ use Rattle.std.specs.declared.io.Error.{Error}
 use Rattle.std.specs.declared.net.socket_addr.SocketAddrV4.{SocketAddrV4}
 use Rattle.boxes.specs.State.{State}
 use Rattle.office.specs.Connections.{TellsMoments}
-use Rattle.seats.specs.Crowds.{standing_in}
+use Rattle.wire.specs.Crowds.{standing_in}
 use Rattle.office.specs.Crowds.{is_fault_end}
 use Rattle.office.specs.Interleaved.{GaveUpWithinMessages, Interleaved, SpeakInTurns, Thread, acts_in}
 use Rattle.office.specs.Repeats.{RepeatsOnce}
 use Rattle.office.specs.Seats.{AreThreads, HaveTurns, TellsOneMoment, turns_of}
-use Rattle.seats.specs.declared.seat.Seat.{Seat}
+use Rattle.wire.specs.declared.seat.Seat.{Seat}
 use Rattle.wire.specs.declared.gathered.Gathered.{Gathered}
 use Rattle.wire.specs.declared.outbox.Outbox.{Outbox}
 use Rattle.sockets.specs.Accepting.{HasGiven}

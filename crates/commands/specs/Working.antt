@@ -1,7 +1,7 @@
 -- What the work of a command does to a keeper.
 use Rattle.std.specs.Prelude.{◌≡◌}
 use Rattle.boxes.specs.State.{State}
-use Rattle.keeper.specs.declared.keep.Keeper.{Ghosts}
+use Rattle.boxes.specs.declared.keep.Keeper.{Ghosts}
 use Rattle.office.specs.Premise.{IsLeft, WasKept}
 use Rattle.commands.specs.Asking.{Asked, IsLeftBy}
 

@@ -6,9 +6,8 @@ ghost use Rattle.commands.specs.Working.{Passes};
 
 use crate::faults::Fault;
 use crate::work::{Done, OfficeWork, say};
-use keeper::Keeper;
+use boxes::{Keeper, Rolls};
 use office::{DeskFault, Office};
-use rolls::Rolls;
 use std::alloc::Global;
 use std::io::{Error, ErrorKind, Read, Write};
 use tasks::read_line;

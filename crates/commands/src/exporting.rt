@@ -4,8 +4,8 @@ ghost use Rattle.office.specs.Crashes.{AddsStanding};
 
 use crate::faults::Fault;
 use crate::work::OfficeWork;
-use exports::{ExportFault, Folder, PutFault, export};
-use rolls::Rolls;
+use boxes::Rolls;
+use lists::{ExportFault, Folder, PutFault, export};
 use std::alloc::Global;
 use std::fs::{DirBuilder, Files, OpenOptions, Permissions};
 use std::io::{BufWriter, Error, ErrorKind, Write};

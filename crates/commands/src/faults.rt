@@ -1,7 +1,7 @@
 //! The program's faults, and their messages.
 use crate::arguments::Argument;
-use keeper::KeepFault;
-use manifests::ListFault;
+use boxes::KeepFault;
+use lists::ListFault;
 use office::DeskFault;
 use std::alloc::AllocError;
 use thiserror::Error;

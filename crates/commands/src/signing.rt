@@ -5,8 +5,8 @@ use crate::arguments::Argument;
 use crate::faults::Fault;
 use crate::secrets::read_secret_file;
 use crate::work::{Done, OfficeWork};
+use boxes::Rolls;
 use links::LinkKey;
-use rolls::Rolls;
 use sigv4::is_key_id;
 use std::alloc::Global;
 

@@ -6,7 +6,7 @@ ghost use Rattle.commands.specs.Asking.{Asked};
 ghost use Rattle.commands.specs.Working.{Passes};
 
 use crate::faults::Fault;
-use rolls::Rolls;
+use boxes::Rolls;
 use std::io::Write;
 
 /// The work of a command on an office. It owns the keeper while it works, so that a clause can say what became of it.

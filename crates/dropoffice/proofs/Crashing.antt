@@ -5,9 +5,9 @@ use Rattle.sqlite.specs.State.{State, HasCleanDisk}
 use Rattle.sqlite.specs.Tree.{Trees}
 use Rattle.boxes.specs.State.{State as Office}
 use Rattle.sqltables.specs.Kept.{LeavesStates, RowsKeep}
-use Rattle.taskwork.specs.Leaving.{IsLeftOf, MayCrashTo}
-use Rattle.taskwork.specs.declared.left.Left.{Left}
-use Rattle.taskwork.specs.declared.left.Left.TheVariants as left
+use Rattle.dropoffice.specs.Leaving.{IsLeftOf, MayCrashTo}
+use Rattle.dropoffice.specs.declared.left.Left.{Left}
+use Rattle.dropoffice.specs.declared.left.Left.TheVariants as left
 
 -- what a crash leaves is also like this
 pub crash_more : {F D : Type 0} {g : disk.Ghosts D} (rest : Left F D g) (Like More : Office → Type 0) → ((t : Office) → Like t → More t) → MayCrashTo rest Like → MayCrashTo rest More

@@ -19,11 +19,11 @@ use Rattle.sqltables.specs.Kept.{KeepsState, RowsKeep}
 use Rattle.sqlaudit.specs.Opened.{HasOurs, IsOurs, OnlyLooks}
 use Rattle.sqlkeeper.specs.Sparing.{Spares}
 use Rattle.sqlkeeper.specs.Versions.{IsOfficeFile, KeepsFirst}
-use Rattle.taskwork.specs.Holding.{AreHeld, HoldsEither, HoldsFirst, HoldsOurs, HoldsState, LeavesHeld, ShowsHeld}
+use Rattle.dropoffice.specs.Holding.{AreHeld, HoldsEither, HoldsFirst, HoldsOurs, HoldsState, LeavesHeld, ShowsHeld}
 use Rattle.dropoffice.specs.Working.{SparesShown, StillSees, WasOurs}
-use Rattle.taskwork.specs.Leaving.{IsSpared}
-use Rattle.taskwork.specs.declared.left.Left.{Left}
-use Rattle.taskwork.specs.declared.left.Left.TheVariants as left
+use Rattle.dropoffice.specs.Leaving.{IsSpared}
+use Rattle.dropoffice.specs.declared.left.Left.{Left}
+use Rattle.dropoffice.specs.declared.left.Left.TheVariants as left
 
 rows_of : (v : Version) (db : Database) (tables : Tables) → Holds v db tables → Holds v (record { schema = v.schema; trees = db.trees }) tables
 rows_of v db tables holds = subst (λ (schema : Schema). Holds v (record { schema = schema; trees = db.trees }) tables) holds.schema holds

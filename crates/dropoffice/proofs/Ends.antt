@@ -14,9 +14,9 @@ use Rattle.sqltables.specs.Schema.{s0}
 use Rattle.tasks.specs.declared.task.Init.{Init}
 use Rattle.commands.specs.Asking.{Asked, IsLeftBy}
 use Rattle.dropoffice.specs.Working.{MigratedOn, RanOn}
-use Rattle.taskwork.specs.Leaving.{IsLeftOf, LeavesOffice, MayCrashTo, Migrated, Ran}
-use Rattle.taskwork.specs.Performing.{HoldsBare, IsFirstRow, Made}
-use Rattle.taskwork.specs.declared.left.Left.{Left}
+use Rattle.dropoffice.specs.Leaving.{IsLeftOf, LeavesOffice, MayCrashTo, Migrated, Ran}
+use Rattle.dropoffice.specs.Performing.{HoldsBare, IsFirstRow, Made}
+use Rattle.dropoffice.specs.declared.left.Left.{Left}
 use Rattle.commands.proofs.Landing.{is_left}
 use Rattle.dropoffice.proofs.Crashing.{crash_more}
 use Rattle.dropoffice.proofs.Ended.{held, held_either}

@@ -2,3 +2,4 @@ pub mod Crashing
 pub mod Ended
 pub mod Ends
 mod Fresh
+pub mod Less

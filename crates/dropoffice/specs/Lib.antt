@@ -1,1 +1,4 @@
 pub mod Working
+pub mod Holding
+pub mod Leaving
+pub mod Performing

@@ -8,9 +8,11 @@ ghost use Rattle.sigv4.specs.Credential.{IsKeyId, IsSecret};
 ghost use Rattle.boxes.specs.FirstState.{first_state};
 ghost use Rattle.commands.specs.Wording.{IsNumber};
 ghost use Rattle.dropoffice.specs.Working.{MakesOn, OpensOn};
-ghost use Rattle.taskwork.specs.Leaving.{IsCleanLeft, IsClosed};
-ghost use Rattle.taskwork.specs.Performing.{HasSettings, IsFirstRow, IsGivenSecret, IsSecretOf, MayMake};
+ghost use Rattle.dropoffice.specs.Leaving.{IsCleanLeft, IsClosed};
+ghost use Rattle.dropoffice.specs.Performing.{HasSettings, IsFirstRow, IsGivenSecret, IsSecretOf, MayMake};
 
+use crate::files::Purpose;
+use crate::left::{Left, Worked, ended_with};
 use crate::opening::{connect, end_work, unfit};
 use boxes::OfficeRow;
 use commands::{Argument, Fault, check_secret, read_secret_file};
@@ -24,7 +26,6 @@ use std::fs::{Files, OpenFile, OpenOptions, Permissions};
 use std::io::ErrorKind;
 use std::os::unix::fs::{OpenOptionsExt, PermissionsExt};
 use tasks::{Init, Secret};
-use taskwork::{Left, Purpose, Worked, ended_with};
 
 /// Readable and writable by the owner only.
 const OWNERS: u32 = 0o600;

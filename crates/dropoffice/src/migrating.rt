@@ -4,12 +4,16 @@ ghost use Rattle.sqlite.specs.Files.{file_state};
 ghost use Rattle.sqlite.specs.Held.{state};
 ghost use Rattle.sqlite.specs.Recovery.{Image};
 ghost use Rattle.sqlite.specs.WalFiles.{image_at};
-ghost use Rattle.taskwork.specs.Holding.{HoldsOurs};
+ghost use Rattle.dropoffice.specs.Holding.{HoldsOurs};
 ghost use Rattle.dropoffice.specs.Working.{MigratesOn, OpensOn};
-ghost use Rattle.taskwork.specs.Leaving.{IsCleanLeft, IsClosed};
-ghost use Rattle.taskwork.specs.Performing.{MayMigrate};
+ghost use Rattle.dropoffice.specs.Leaving.{IsCleanLeft, IsClosed};
+ghost use Rattle.dropoffice.specs.Performing.{MayMigrate};
 
+use crate::ending::unclosed;
+use crate::files::{Purpose, require_file};
+use crate::left::{Left, Worked, ended_with};
 use crate::opening::{connect, end_work, unfit};
+use crate::works::failed;
 use commands::{Done, Fault, tell};
 use sqlite::{Alter, Connection, FileFrom, FileStore, Start};
 use sqlite_disk::Disk;
@@ -17,7 +21,6 @@ use sqlkeeper::SqlKeeper;
 use std::alloc::Global;
 use std::io::Write;
 use tasks::OfficeFile;
-use taskwork::{Left, Purpose, Worked, ended_with, failed, require_file, unclosed};
 
 /// Migrates an office file to version 2, and writes the line `done` to `out`. A file of version 2 stays unchanged.
 pub(crate) fn do_migrate<S: Start + Drop, W: Write + Drop>(

@@ -8,11 +8,13 @@ ghost use Rattle.sqlite.specs.Start.{FindsIn};
 ghost use Rattle.sqlite.specs.WalFiles.{image_at};
 ghost use Rattle.boxes.specs.State.{State};
 ghost use Rattle.sqltables.specs.Kept.{KeepsState, LeavesStates};
-ghost use Rattle.taskwork.specs.Leaving.{IsCleanLeft, IsClosed, IsLeftOf, IsLooked, IsSpared, LeavesOffice, MayCrashTo};
-ghost use Rattle.taskwork.specs.Performing.{MayRun};
-ghost use Rattle.taskwork.specs.Holding.{HoldsOurs};
+ghost use Rattle.dropoffice.specs.Leaving.{IsCleanLeft, IsClosed, IsLeftOf, IsLooked, IsSpared, LeavesOffice, MayCrashTo};
+ghost use Rattle.dropoffice.specs.Performing.{MayRun};
+ghost use Rattle.dropoffice.specs.Holding.{HoldsOurs};
 ghost use Rattle.dropoffice.specs.Working.{OpensOn, WorksOn};
 
+use crate::files::{Purpose, require_file};
+use crate::left::{Left, Worked, ended_with};
 use commands::{Fault, OfficeWork};
 use sqlite::{
     Alter, Connection, Error, ErrorCode, FileFrom, FileStore, Files, Leftover, Options, Start,
@@ -22,7 +24,6 @@ use sqlite_std_file::OpenError;
 use sqlkeeper::{OpenFault, SqlKeeper};
 use std::hash::{BuildHasher, RandomState};
 use std::io::ErrorKind;
-use taskwork::{Left, Purpose, Worked, ended_with, require_file};
 
 /// The size of the page cache while an office is served, in pages of 4096 bytes: 64 MB. For any other page the engine reads the
 /// bytes again and computes their checksum.

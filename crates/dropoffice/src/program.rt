@@ -2,22 +2,20 @@
 ghost use Rattle.std.specs.Prelude.{◌≡◌, ◌≢◌, ◌⊎◌, IsOk, map};
 ghost use Rattle.clap.specs.Words.{kind_of};
 ghost use Rattle.sqlite.specs.WalFiles.{image_at};
-ghost use Rattle.taskwork.specs.Holding.{HoldsOurs};
-ghost use Rattle.taskwork.specs.Leaving.{IsCleanLeft};
-ghost use Rattle.taskwork.specs.Performing.{AsksForText, IsServe, NamesNone, NamesTask, Performs, Succeeds};
+ghost use Rattle.dropoffice.specs.Holding.{HoldsOurs};
+ghost use Rattle.dropoffice.specs.Leaving.{IsCleanLeft};
+ghost use Rattle.dropoffice.specs.Performing.{AsksForText, IsServe, NamesNone, NamesTask, Performs, Succeeds};
 
-use crate::init::do_init;
-use crate::migrating::do_migrate;
-use crate::opening::work_over;
+use crate::ending::end_task;
+use crate::left::Left;
 use clap::Error as WordsError;
 use clap::error::ErrorKind;
-use commands::{Done, Ending, Fault, OfficeWork, Outside};
+use commands::{Ending, Fault, Outside};
 use sockets::Listener;
 use sqlite::{FileFrom, Start};
 use sqlite_disk::Disk;
 use std::io::{Read, Write};
-use tasks::{Init, OfficeFile, Task};
-use taskwork::{Left, OfficeFiles, Purpose, Worked, end_task};
+use tasks::Task;
 use wire::{Gathered, Outbox};
 
 /// The exit status of a task that was done, even if it refused requests.
@@ -28,38 +26,6 @@ const FAULT: u8 = 1;
 
 /// The exit status for arguments that name no task.
 const WORDS: u8 = 2;
-
-/// Office files that are databases of SQLite.
-struct SqlFiles;
-
-impl OfficeFiles for SqlFiles {
-    fn work_over<S: Start + Drop, W: OfficeWork + Drop>(
-        rt: &HostRuntime,
-        file: &str,
-        purpose: Purpose,
-        work: W,
-        start: S,
-    ) -> Worked<W::Gain, S, FileFrom<S>> {
-        work_over(rt, file, purpose, work, start)
-    }
-
-    fn do_init<S: Start + Drop>(
-        rt: &HostRuntime,
-        words: &Init<'_>,
-        start: S,
-    ) -> Worked<Result<(), Fault>, S, FileFrom<S>> {
-        do_init(rt, words, start)
-    }
-
-    fn do_migrate<S: Start + Drop, W: Write + Drop>(
-        rt: &HostRuntime,
-        words: &OfficeFile<'_>,
-        out: W,
-        start: S,
-    ) -> Worked<Done<W>, S, FileFrom<S>> {
-        do_migrate(rt, words, out, start)
-    }
-}
 
 /// What the program did, and what it leaves.
 #[derive(Drop)]
@@ -136,9 +102,7 @@ pub fn perform<
 {
     match Task::read(rt.alloc(), words) {
         Ok(task) => {
-            let ended = end_task::<SqlFiles, S, N, R, W, E>(
-                rt, &task, input, out, &mut err, start, outside,
-            );
+            let ended = end_task(rt, &task, input, out, &mut err, start, outside);
             Performed {
                 status: status_of(ended.result, &mut err),
                 out: ended.out,

@@ -4,8 +4,8 @@ use Rattle.std.proofs.Common.{◌≡◌, ℕ, suc, true, false, List, [], ◌⊎
 use Rattle.boxes.specs.State.{State}
 use Rattle.wire.specs.Framing.{Next, Step}
 use Rattle.examples.proofs.Awaiting.{IsAwaited, awaited}
-use Rattle.seats.specs.declared.session.SessionEnd.{SessionEnd}
-use Rattle.seats.specs.declared.session.SessionEnd.TheVariants.{ReadFault}
+use Rattle.wire.specs.declared.session.SessionEnd.{SessionEnd}
+use Rattle.wire.specs.declared.session.SessionEnd.TheVariants.{ReadFault}
 use Rattle.office.specs.Sessions.{Session, most_messages}
 use Rattle.office.specs.Sessions as session
 use Rattle.office.proofs.Begun.{IsBegunStep, begun_step}

@@ -6,3 +6,17 @@ pub mod Walked
 pub mod ToldLines
 pub mod Texts
 pub mod Passed
+pub mod Entries
+pub mod Portions
+pub mod ReceiptLines
+pub mod CsvLines
+pub mod AnsweredLists
+pub mod RecordFields
+pub mod Wishes
+pub mod Parts
+pub mod Components
+pub mod BoxFiles
+pub mod SentFiles
+pub mod Walks
+pub mod Paths
+pub mod OneName

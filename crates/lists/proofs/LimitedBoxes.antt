@@ -12,7 +12,7 @@ use Rattle.sigtext.specs.Bytes.{bytes_cmp}
 use Rattle.boxes.specs.Sound.{IsSound}
 use Rattle.boxes.specs.State.{State}
 use Rattle.boxes.proofs.Lookups.{bytes_same, bytes_total}
-use Rattle.rolls.specs.Next.{IsLimit, IsNext}
+use Rattle.boxes.specs.Next.{IsLimit, IsNext}
 use Rattle.lists.specs.Keys.{AreLimits, IsLast}
 use Rattle.lists.proofs.NextFiles.{box_behind}
 use Rattle.lists.proofs.Orders.{not_itself, turned}

@@ -11,7 +11,7 @@ use Rattle.boxes.specs.State.{Place, place_cmp, State}
 use Rattle.boxes.proofs.FileBoxes.{file_in_box, there_is}
 use Rattle.boxes.proofs.Lookups.{bytes_same, bytes_total}
 use Rattle.boxes.proofs.NoBox.{all_at}
-use Rattle.rolls.specs.Next.{IsBox, IsFile, IsFileIn, IsKey, IsNext}
+use Rattle.boxes.specs.Next.{IsBox, IsFile, IsFileIn, IsKey, IsNext}
 use Rattle.lists.specs.Places.{IsFirstPast}
 use Rattle.lists.proofs.Orders.{not_itself, turned}
 

@@ -4,11 +4,11 @@ use Rattle.std.specs.Prelude.{IfErr, ⊤}
 use Rattle.std.specs.Result.{IsErrAnd}
 use Rattle.boxes.specs.State.{State}
 use Rattle.sigtext.specs.Counts.{CountsErrors}
-use Rattle.keeper.specs.Keeping.{Stays}
-use Rattle.manifests.specs.Asking.{stays_joined}
-use Rattle.manifests.specs.Lists.{by_keeper, by_writer, IsOfAnswering, IsOfManifest}
-use Rattle.manifests.specs.declared.list_fault.ListFault.{ListFault}
-use Rattle.manifests.specs.declared.list_fault.ListFault.TheVariants as fault
+use Rattle.boxes.specs.Keeping.{Stays}
+use Rattle.lists.specs.Asking.{stays_joined}
+use Rattle.lists.specs.Lists.{by_keeper, by_writer, IsOfAnswering, IsOfManifest}
+use Rattle.lists.specs.declared.list_fault.ListFault.{ListFault}
+use Rattle.lists.specs.declared.list_fault.ListFault.TheVariants as fault
 
 module _ {T : Type 0} where
   -- an answering fault

@@ -8,7 +8,7 @@ use Rattle.std.specs.Ordering.{is_eq, is_lt, eq_by_cmp}
 use Rattle.std.specs.Cmp.{IsTotalOrder, tied_itself}
 use Rattle.std.specs.FinMap.{find, is_sorted, IsAntisymmetric}
 use Rattle.std.specs.FinMap.Entries.{below_all}
-use Rattle.rolls.specs.Next.{IsNext}
+use Rattle.boxes.specs.Next.{IsNext}
 use Rattle.lists.proofs.Orders.{not_itself}
 
 first : (a b : Bool) → T (a && b) → T a

@@ -7,9 +7,9 @@ use Rattle.std.specs.Cmp.{IsTotalOrder}
 use Rattle.std.specs.FinMap.{FinMap, get, entries, entries_sorted, find, get-entries, IsAntisymmetric}
 use Rattle.wire.specs.Sending.{Sends}
 use Rattle.wire.proofs.Written.{sends_both}
-use Rattle.manifests.specs.Lists.{line, AreLines}
-use Rattle.manifests.proofs.AnsweredLists.{lines_none, lines_push, none_table, sends_err, sends_nothing, sends_whole}
-use Rattle.rolls.specs.Next.{IsNext}
+use Rattle.lists.specs.Lists.{line, AreLines}
+use Rattle.lists.proofs.AnsweredLists.{lines_none, lines_push, none_table, sends_err, sends_nothing, sends_whole}
+use Rattle.boxes.specs.Next.{IsNext}
 use Rattle.lists.specs.Written.{SendsLines, WritesList}
 use Rattle.lists.proofs.Walk.{Cut, begins, ends, moves}
 

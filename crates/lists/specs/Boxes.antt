@@ -5,7 +5,7 @@ use Rattle.sigv4.specs.Dates.{WritesMoment}
 use Rattle.boxes.specs.State.{Settings, State}
 use Rattle.boxes.specs.Totals.{used, count}
 use Rattle.boxes.specs.declared.totals.Totals.{Totals}
-use Rattle.manifests.specs.Lists.{line}
+use Rattle.lists.specs.Lists.{line}
 use Rattle.desk.specs.Texts.{days_word, minute_word, mode_word, rule_words}
 
 abbrev pub boxes_head : List (List ℕ)

@@ -5,7 +5,7 @@ use Rattle.sigv4.specs.Dates.{WritesMoment}
 use Rattle.sigv4.specs.Hmac.{sha256}
 use Rattle.boxes.specs.State.{File, Place, Receipt, State}
 use Rattle.boxes.specs.Steps.{HasReceipt}
-use Rattle.manifests.specs.Lists.{line}
+use Rattle.lists.specs.Lists.{line}
 
 abbrev pub files_head : List (List ℕ)
 files_head = codes "box" ∷ codes "name" ∷ codes "length" ∷ codes "sha256" ∷ codes "receipt" ∷ codes "moment" ∷ codes "key" ∷ []

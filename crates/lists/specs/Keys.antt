@@ -5,7 +5,7 @@ use Rattle.std.specs.List.Sorted.{IsStrictlySortedBy}
 use Rattle.sigtext.specs.Bytes.{bytes_cmp}
 use Rattle.boxes.specs.Limits.{IsLimitedTo}
 use Rattle.boxes.specs.State.{Key, State}
-use Rattle.manifests.specs.Lists.{line}
+use Rattle.lists.specs.Lists.{line}
 use Rattle.desk.specs.Texts.{role_word}
 
 abbrev pub keys_head : List (List ℕ)

@@ -3,3 +3,12 @@ pub mod Places
 pub mod Keys
 pub mod Boxes
 pub mod Files
+pub mod Lists
+pub mod Manifests
+pub mod LinkLists
+pub mod Answering
+pub mod Asking
+pub mod Names
+pub mod Folders
+pub mod Exports
+pub mod Faults

@@ -3,7 +3,7 @@ use Rattle.std.specs.Prelude.{◌≡◌, ℕ, List, [], Option}
 use Rattle.std.specs.declared.cmp.Ordering.TheVariants.{Less}
 use Rattle.sigtext.specs.Bytes.{bytes_cmp}
 use Rattle.boxes.specs.State.{Place, place_cmp, State}
-use Rattle.rolls.specs.Next.{IsFile, IsNext}
+use Rattle.boxes.specs.Next.{IsFile, IsNext}
 use Rattle.lists.specs.declared.places.FilePlace.{FilePlace}
 
 abbrev pub place_in : FilePlace → Place

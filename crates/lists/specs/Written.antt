@@ -1,7 +1,7 @@
 -- Writing a list with one line per entry.
 use Rattle.std.specs.Prelude.{◌≡◌, ℕ, List, [], ◌++◌, Option, Result, OnOk}
 use Rattle.wire.specs.Sending.{Sends}
-use Rattle.manifests.specs.Lists.{AreLines, IsTable}
+use Rattle.lists.specs.Lists.{AreLines, IsTable}
 
 -- these are the first of all entries; on success they are all
 pub record AreFirst {A T E : Type 0} (all first : List A) (result : Result T E) : Type 0 where

@@ -1,14 +1,14 @@
 //! The places of the files, in order.
 ghost use Rattle.std.specs.Prelude.{IfErr, IfOk, option_map};
 ghost use Rattle.boxes.specs.State.{place_cmp, Place, State};
-ghost use Rattle.keeper.specs.Bound.{StaysBy};
-ghost use Rattle.rolls.specs.Next.{IsFile, IsNext};
-ghost use Rattle.manifests.specs.Asking.{Meant};
-ghost use Rattle.manifests.specs.Lists.{by_keeper, IsOfAnswering};
+ghost use Rattle.boxes.specs.Bound.{StaysBy};
+ghost use Rattle.boxes.specs.Next.{IsFile, IsNext};
+ghost use Rattle.lists.specs.Asking.{Meant};
+ghost use Rattle.lists.specs.Lists.{by_keeper, IsOfAnswering};
 ghost use Rattle.lists.specs.Places.{place_in, IsFirstPast};
 
-use manifests::ListFault;
-use rolls::Rolls;
+use crate::ListFault;
+use boxes::Rolls;
 use std::alloc::Global;
 
 /// The place of a file.

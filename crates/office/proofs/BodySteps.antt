@@ -20,7 +20,7 @@ use Rattle.wire.specs.Judging.{HeadAnnounces}
 use Rattle.wire.proofs.NextMessages.{IsNextMessage}
 use Rattle.wire.specs.Whole.{IsOpening, LacksBody, TakesBody}
 use Rattle.wire.specs.declared.feed.Feed.{Feed}
-use Rattle.keeper.specs.declared.keep.Keeper.{Ghosts}
+use Rattle.boxes.specs.declared.keep.Keeper.{Ghosts}
 use Rattle.wire.proofs.BrokenOff.{awaits_body}
 use Rattle.wire.proofs.Halves.{head_taken, lacking_joined, message_joined}
 use Rattle.office.specs.declared.requests.foreseeing.Prospect.{Prospect}
@@ -32,13 +32,13 @@ use Rattle.office.specs.Sessions.{HasBegunMessage}
 use Rattle.office.specs.Stepping.{IsClosed, IsExpected, LeavesOff, Steps}
 use Rattle.office.specs.declared.connections.handling.Handled.{Handled}
 use Rattle.office.specs.declared.connections.handling.Handled.TheVariants as handled
-use Rattle.seats.specs.declared.session.SessionEnd.{SessionEnd}
-use Rattle.seats.specs.declared.session.SessionEnd.TheVariants.{Refused, ReadFault, WriteFault}
+use Rattle.wire.specs.declared.session.SessionEnd.{SessionEnd}
+use Rattle.wire.specs.declared.session.SessionEnd.TheVariants.{Refused, ReadFault, WriteFault}
 use Rattle.office.specs.Answering.{is_head}
 use Rattle.office.specs.Connections.{MayGiveUp}
 use Rattle.office.specs.Handling.{Handles, end_of}
 use Rattle.office.specs.Premise.{IsFault, WasKept}
-use Rattle.keeper.specs.declared.keep.KeepFault.{KeepFault}
+use Rattle.boxes.specs.declared.keep.KeepFault.{KeepFault}
 use Rattle.wire.specs.Feeds.{left, reader_of, waits_in}
 use Rattle.wire.specs.declared.feed.Place.{Place}
 use Rattle.office.proofs.KeeperCalls.{Quiet, quiet_then}

@@ -6,10 +6,10 @@ use Rattle.std.proofs.lemmas.List.{length_push, map_push}
 use Rattle.std.proofs.lemmas.List.Sums.{sum_by-cons, sum_by-set, sum_by_push}
 use Rattle.office.specs.Interleaved.{Turn, turns_by}
 use Rattle.office.specs.Seats.{TellsOneMoment}
-use Rattle.seats.specs.declared.session.SessionEnd.{SessionEnd}
+use Rattle.wire.specs.declared.session.SessionEnd.{SessionEnd}
 use Rattle.office.proofs.RunTurns.{less_is_not}
 use Rattle.office.proofs.Sitting.{IsFirst, Sitting}
-use Rattle.seats.proofs.Ties.{all_more}
+use Rattle.wire.proofs.Ties.{all_more}
 
 abbrev pub over_if : Option SessionEnd → ℕ
 over_if e = cond (is_some e) 1 0

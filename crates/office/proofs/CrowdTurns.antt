@@ -5,22 +5,22 @@ use Rattle.std.specs.List.{count_by}
 use Rattle.std.proofs.lemmas.List.{append-nil, length-append, length-map, map_push}
 use Rattle.std.proofs.lemmas.List.Sums.{sum_by-cons, sum_by-set, sum_by_push}
 use Rattle.std.proofs.lemmas.Option.{slice_get_within}
-use Rattle.keeper.specs.declared.keep.Keeper.{Ghosts}
+use Rattle.boxes.specs.declared.keep.Keeper.{Ghosts}
 use Rattle.boxes.specs.State.{State}
-use Rattle.seats.specs.Crowds.{Changes, IsOpenAt, number_of, numbers_after, slot_at, standing_in}
-use Rattle.seats.specs.Crowds as crowd
+use Rattle.wire.specs.Crowds.{Changes, IsOpenAt, number_of, numbers_after, slot_at, standing_in}
+use Rattle.wire.specs.Crowds as crowd
 use Rattle.office.specs.Crowds.{ServesCrowd, TurnsSlot, fails_now, is_fault_end}
 use Rattle.office.specs.Crowds as in_turn
 use Rattle.office.specs.Interleaved.{Thread, Turn}
 use Rattle.office.specs.Premise.{IsLeft}
-use Rattle.seats.specs.Seats.{Gathers, IsNew, Sends}
+use Rattle.wire.specs.Seats.{Gathers, IsNew, Sends}
 use Rattle.office.specs.Seats.{AreThreads, TakesTurn, TellsTurn}
-use Rattle.seats.specs.declared.seat.Seat.{Seat}
-use Rattle.seats.specs.declared.session.SessionEnd.{SessionEnd}
+use Rattle.wire.specs.declared.seat.Seat.{Seat}
+use Rattle.wire.specs.declared.session.SessionEnd.{SessionEnd}
 use Rattle.office.proofs.RunSoFar.{MeansOne}
 use Rattle.office.proofs.SeatTurns.{AllTell, TurnsMore, as_many, gathered_seat, gathers_tell, seat_comes, sent_seat, tell_comes, tell_more, tell_sent, turns_more, weaves_last}
-use Rattle.seats.proofs.Standings.{all_comes, all_goes, all_none, all_set}
-use Rattle.seats.proofs.Ties.{AreNumbered, Ties, none_is, numbered_comes, numbered_goes, numbered_none, numbered_set, some_is, ties_comes, ties_goes, ties_none, ties_set}
+use Rattle.wire.proofs.Standings.{all_comes, all_goes, all_none, all_set}
+use Rattle.wire.proofs.Ties.{AreNumbered, Ties, none_is, numbered_comes, numbered_goes, numbered_none, numbered_set, some_is, ties_comes, ties_goes, ties_none, ties_set}
 use Rattle.office.proofs.Weaving.{starts}
 
 -- ---- how many ended by a fault

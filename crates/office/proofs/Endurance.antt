@@ -7,10 +7,10 @@ use Rattle.sigtext.specs.Request.{Request}
 use Rattle.boxes.specs.State.{State}
 use Rattle.wire.specs.declared.answer.Answer.{Answer}
 use Rattle.wire.specs.declared.answer.Reply.{Reply}
-use Rattle.keeper.specs.Bound.{StaysBy}
-use Rattle.keeper.specs.Keeping.{LeavesEither}
-use Rattle.keeper.specs.declared.keep.KeepFault.{KeepFault}
-use Rattle.keeper.specs.declared.keep.Keeper.{Ghosts}
+use Rattle.boxes.specs.Bound.{StaysBy}
+use Rattle.boxes.specs.Keeping.{LeavesEither}
+use Rattle.boxes.specs.declared.keep.KeepFault.{KeepFault}
+use Rattle.boxes.specs.declared.keep.Keeper.{Ghosts}
 use Rattle.office.specs.declared.requests.commanding.DeskFault.{DeskFault}
 use Rattle.office.specs.declared.requests.commanding.DeskFault.TheVariants as fault
 use Rattle.office.specs.Crashes.{AddsStanding, AddsAsked, Lasts, changed, unchanged, LastsThrough, changed_once, never_changed, Endures, IsAsked, IsOneMore, RefusedLasts, Survives, no_change, some_change, UndoneLasts}

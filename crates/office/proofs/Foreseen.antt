@@ -1,7 +1,7 @@
 -- Consequences of what was foreseen of a message.
 use Rattle.std.proofs.Common.{◌≡◌, ◌≢◌, ℕ, List, Result, Ok, Err, ap, refl, sym, subst, ◌∙◌}
 use Rattle.std.specs.Prelude.{IfErr, IfOk, IsErr, OnErr, OnOk, is_err, true, false}
-use Rattle.keeper.specs.declared.keep.KeepFault.{KeepFault}
+use Rattle.boxes.specs.declared.keep.KeepFault.{KeepFault}
 use Rattle.office.specs.Premise.{IsFault}
 use Rattle.sigtext.specs.declared.refusal.Refusal.{Refusal}
 use Rattle.sigtext.specs.declared.refusal.Refusal.TheVariants as rule

@@ -10,7 +10,7 @@ use Rattle.sigtext.specs.Request.{Request}
 use Rattle.sigtext.specs.SignedHeaders.{Header}
 use Rattle.wire.specs.Framing.{IsHead, headers_of, request_of}
 use Rattle.boxes.specs.State.{State}
-use Rattle.keeper.specs.declared.keep.Keeper.{Ghosts}
+use Rattle.boxes.specs.declared.keep.Keeper.{Ghosts}
 use Rattle.wire.specs.declared.answer.Answer.{Answer}
 use Rattle.wire.specs.declared.counted.Counted.{Counted}
 use Rattle.sigtext.specs.Bytes.{IsBeginning}
@@ -31,8 +31,8 @@ use Rattle.office.specs.Readable.{IsReadable}
 use Rattle.office.specs.Sent.{IsSent}
 use Rattle.office.specs.Sessions.{closing}
 use Rattle.office.specs.Stepping.{IsClosed, TellsStep}
-use Rattle.seats.specs.declared.session.SessionEnd.{SessionEnd}
-use Rattle.seats.specs.declared.session.SessionEnd.TheVariants.{Ended, Truncated, Refused, Limit, ReadFault, WriteFault}
+use Rattle.wire.specs.declared.session.SessionEnd.{SessionEnd}
+use Rattle.wire.specs.declared.session.SessionEnd.TheVariants.{Ended, Truncated, Refused, Limit, ReadFault, WriteFault}
 use Rattle.office.proofs.Endurance.{through}
 
 closes_always : (is_head : Bool) → answer_text is_head (said.Refused rule.TryAgain) ≡ closing rule.TryAgain

@@ -4,10 +4,10 @@ use Rattle.std.specs.Prelude.{IsFalse, IsTrue, OnErr, OnOk}
 use Rattle.std.specs.Result.{is_err}
 use Rattle.sigtext.specs.Counts.{CountsErrors, Rose}
 use Rattle.boxes.specs.State.{State}
-use Rattle.keeper.specs.Bound.{StaysBy}
-use Rattle.keeper.specs.Keeping.{KeepsStaged}
-use Rattle.keeper.specs.declared.keep.KeepFault.{KeepFault}
-use Rattle.keeper.specs.declared.keep.Keeper.{Ghosts}
+use Rattle.boxes.specs.Bound.{StaysBy}
+use Rattle.boxes.specs.Keeping.{KeepsStaged}
+use Rattle.boxes.specs.declared.keep.KeepFault.{KeepFault}
+use Rattle.boxes.specs.declared.keep.Keeper.{Ghosts}
 use Rattle.office.specs.Crashes.{AddsStanding}
 use Rattle.office.specs.Premise.{EndsUnstaged, HoldsUnless, IsFault, StaysUnstaged}
 use Rattle.office.proofs.Endurance.{asked_standing, then_adds}

@@ -36,3 +36,5 @@ pub mod Counting
 pub mod CrowdTurns
 pub mod WithoutInTurn
 pub mod Endings
+pub mod Turns
+pub mod ReplayLemmas

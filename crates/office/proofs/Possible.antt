@@ -8,7 +8,7 @@ use Rattle.boxes.specs.Commands.{HasForm}
 use Rattle.boxes.specs.Deciding.{DecidesCommand}
 use Rattle.boxes.specs.State.{State}
 use Rattle.boxes.specs.Steps.{Command, AddKey, RevokeKey, AddBox, CloseBox, DropFile, LimitKey, SetAllowance, CommandStep, CanRevoke, IsPossible, key_added, key_revoked, box_added, box_closed, file_dropped, key_limited, allowance_set}
-use Rattle.keeper.specs.declared.keep.KeepFault.TheVariants.{Full}
+use Rattle.boxes.specs.declared.keep.KeepFault.TheVariants.{Full}
 use Rattle.office.specs.declared.requests.commanding.DeskFault.{DeskFault}
 use Rattle.office.specs.declared.requests.commanding.DeskFault.TheVariants as fault
 use Rattle.office.specs.DeskLines.{IsObeyedBy, IsDeskLine}

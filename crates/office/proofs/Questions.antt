@@ -2,10 +2,10 @@
 use Rattle.std.proofs.Common.{◌≡◌, ℕ, List, ⊎_elim, ap, inl, inr, Result, Ok, Err, refl, subst, sym}
 use Rattle.std.specs.Prelude.{IsErrAnd, IsErrOf}
 use Rattle.sigtext.specs.Counts.{CountsErrors}
-use Rattle.keeper.specs.Bound.{StaysBy}
-use Rattle.keeper.specs.declared.keep.KeepFault.{KeepFault}
-use Rattle.keeper.specs.declared.keep.KeepFault.TheVariants.{Store}
-use Rattle.keeper.specs.declared.keep.Keeper.{Ghosts}
+use Rattle.boxes.specs.Bound.{StaysBy}
+use Rattle.boxes.specs.declared.keep.KeepFault.{KeepFault}
+use Rattle.boxes.specs.declared.keep.KeepFault.TheVariants.{Store}
+use Rattle.boxes.specs.declared.keep.Keeper.{Ghosts}
 use Rattle.office.specs.Foreseeing.{AreStaged}
 use Rattle.office.specs.declared.requests.foreseeing.Body.{Body}
 

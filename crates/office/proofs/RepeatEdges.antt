@@ -27,8 +27,8 @@ use Rattle.office.specs.Rules.{IsPut, IsPost, IsFetch, Asks, place_of, upload_of
 use Rattle.office.specs.Sessions.{Session, Connection, Run, most_messages}
 use Rattle.office.specs.Sessions as session
 use Rattle.office.specs.WithoutTryAgain.{IsLastRefusal}
-use Rattle.seats.specs.declared.session.SessionEnd.{SessionEnd}
-use Rattle.seats.specs.declared.session.SessionEnd.TheVariants as ends
+use Rattle.wire.specs.declared.session.SessionEnd.{SessionEnd}
+use Rattle.wire.specs.declared.session.SessionEnd.TheVariants as ends
 use Rattle.office.proofs.Deciding.{fetch_no_post, fetch_no_put, put_no_post}
 use Rattle.office.proofs.Repeats.{command_asked, repeats_once}
 

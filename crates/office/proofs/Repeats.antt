@@ -24,7 +24,7 @@ use Rattle.office.specs.Repeats as act
 use Rattle.office.specs.Rules.{IsPut, Asks, Rule, place_of, upload_of}
 use Rattle.office.specs.Sessions.{EndsAtOnce, Session, Connection, Run, most_messages}
 use Rattle.office.specs.Sessions as session
-use Rattle.seats.specs.declared.session.SessionEnd.{SessionEnd}
+use Rattle.wire.specs.declared.session.SessionEnd.{SessionEnd}
 use Rattle.office.proofs.Deciding.{holds_put, put_no_post, fetch_no_put}
 use Rattle.office.proofs.Obeyed.{same_value}
 use Rattle.office.proofs.Standing.{StandsWith, command_keeps, upload_keeps, upload_stands, upload_rules, upload_again}

@@ -7,11 +7,11 @@ use Rattle.std.proofs.lemmas.List.Sums.{sum_by-append}
 use Rattle.std.proofs.Math.Seq.{take-suc}
 use Rattle.sigtext.specs.Request.{Request}
 use Rattle.boxes.specs.State.{State}
-use Rattle.keeper.specs.declared.keep.Keeper.{Ghosts}
+use Rattle.boxes.specs.declared.keep.Keeper.{Ghosts}
 use Rattle.wire.specs.declared.counted.Counted.{Counted}
-use Rattle.seats.specs.declared.session.SessionEnd.{SessionEnd}
-use Rattle.seats.specs.declared.session.SessionEnd.TheVariants.{ReadFault}
-use Rattle.seats.specs.Ends.{is_fault}
+use Rattle.wire.specs.declared.session.SessionEnd.{SessionEnd}
+use Rattle.wire.specs.declared.session.SessionEnd.TheVariants.{ReadFault}
+use Rattle.wire.specs.Ends.{is_fault}
 use Rattle.office.specs.Connections.{TellsMoments, IsStream, Serves, TellsFaults, HoldsUpOver, HoldsUpTo, LastsOverAll, StaysOpen, AreServed, Runs}
 use Rattle.office.specs.Crashes.{LastsThrough, never_changed}
 use Rattle.office.specs.Premise.{HoldsUp, IsLeft}

@@ -7,7 +7,7 @@ use Rattle.boxes.specs.State.{State}
 use Rattle.office.specs.Repeats.{Act, Acts, AreSessionActs, text_of}
 use Rattle.office.specs.Repeats as act
 use Rattle.office.specs.Sessions.{Connection, Run, most_messages}
-use Rattle.seats.specs.declared.session.SessionEnd.{SessionEnd}
+use Rattle.wire.specs.declared.session.SessionEnd.{SessionEnd}
 use Rattle.office.proofs.Repeats.{NoneAnswered, session_acts}
 use Rattle.office.specs.Interleaved.{Turn, acts_in, moments_in, own_acts, own_moments, Thread, thread_of, Speaks, AnswersNone, AreSpoken, AreTied, Interleaved}
 use Rattle.office.specs.Interleaved as said

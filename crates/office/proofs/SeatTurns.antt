@@ -5,7 +5,7 @@ use Rattle.std.specs.List.{AllByRecursion, sum_by}
 use Rattle.std.proofs.lemmas.List.Sums.{sum_by-cons}
 use Rattle.std.specs.Io.KnownBytes.{Appends, Keeps, prepend_known}
 use Rattle.sigtext.specs.Counts.{Rose}
-use Rattle.keeper.specs.declared.keep.Keeper.{Ghosts}
+use Rattle.boxes.specs.declared.keep.Keeper.{Ghosts}
 use Rattle.boxes.specs.State.{State}
 use Rattle.wire.specs.Feeds.{ahead_of}
 use Rattle.wire.specs.declared.counted.Counted.{Counted}
@@ -17,18 +17,18 @@ use Rattle.office.specs.Crashes.{Survives}
 use Rattle.office.specs.Interleaved.{GaveUpWithinMessages, HaveGivenUp, Interleaved, SpeakInTurns, Thread, Turn, acts_in}
 use Rattle.office.specs.Premise.{IsLeft}
 use Rattle.office.specs.Repeats.{RepeatsOnce}
-use Rattle.seats.specs.Seats.{Gathers, Sends, IsNew, left_of}
+use Rattle.wire.specs.Seats.{Gathers, Sends, IsNew, left_of}
 use Rattle.office.specs.Seats.{AreThreads, HaveTurns, LastsOver, IsStreamOf, StaysSo, TakesTurn, TellsOneMoment, TellsTurn, TellsTurnOf, had_ended, went_on, ended, turns_of}
 use Rattle.office.specs.Sessions.{most_messages}
 use Rattle.office.specs.Stepping.{Steps, TellsStep}
-use Rattle.seats.specs.declared.seat.Seat.{Seat}
-use Rattle.seats.specs.declared.session.SessionEnd.{SessionEnd}
+use Rattle.wire.specs.declared.seat.Seat.{Seat}
+use Rattle.wire.specs.declared.session.SessionEnd.{SessionEnd}
 use Rattle.office.proofs.Counting.{AllTook, took_of}
 use Rattle.office.proofs.Endurance.{survives_more}
 use Rattle.office.proofs.Repeats.{repeats_once}
 use Rattle.office.proofs.RunSoFar.{MeansOne}
 use Rattle.office.proofs.Sitting.{Lost, Sitting, answered, closed, gathered, sent_on}
-use Rattle.seats.proofs.Ties.{none_is}
+use Rattle.wire.proofs.Ties.{none_is}
 use Rattle.office.proofs.Weaving.{AreThreadsOf, IsThreadOf, SoFar, all_last, answered_more, closed_more, finishes, gathered_more, lost_of, none_gave_up, opens, sent_more, threads_rose}
 
 -- the same step, with equal places and bytes

@@ -7,7 +7,7 @@ use Rattle.sigtext.specs.declared.refusal.Refusal.{Refusal}
 use Rattle.sigtext.specs.declared.refusal.Refusal.TheVariants as rule
 use Rattle.sigtext.specs.Request.{Request}
 use Rattle.boxes.specs.State.{State}
-use Rattle.keeper.specs.declared.keep.Keeper.{Ghosts}
+use Rattle.boxes.specs.declared.keep.Keeper.{Ghosts}
 use Rattle.wire.specs.Feeding.{Awaits, OfStream}
 use Rattle.wire.specs.Framing.{IsHead, Next, Message, request_of}
 use Rattle.wire.specs.Framing as frame
@@ -18,8 +18,8 @@ use Rattle.wire.specs.declared.joining.Came.{Came}
 use Rattle.wire.proofs.NextMessages.{IsNextMessage}
 use Rattle.wire.specs.Whole.{BreaksOff, Brings}
 use Rattle.wire.proofs.Halves.{message_stands}
-use Rattle.seats.specs.declared.session.SessionEnd.{SessionEnd}
-use Rattle.seats.specs.declared.session.SessionEnd.TheVariants.{Ended, Truncated, Refused, Limit, ReadFault, WriteFault}
+use Rattle.wire.specs.declared.session.SessionEnd.{SessionEnd}
+use Rattle.wire.specs.declared.session.SessionEnd.TheVariants.{Ended, Truncated, Refused, Limit, ReadFault, WriteFault}
 use Rattle.office.specs.declared.connections.handling.Handled.TheVariants.{Answered, GaveUp, Broken}
 use Rattle.sigtext.specs.Counts.{Rose}
 use Rattle.office.specs.Connections.{HoldsUpTo, IsKnown, IsStream, Serves}

@@ -6,7 +6,7 @@ use Rattle.std.proofs.lemmas.List.{append-nil}
 use Rattle.sigtext.specs.Request.{Request}
 use Rattle.wire.specs.Framing.{Next}
 use Rattle.wire.specs.Framing as frame
-use Rattle.keeper.specs.declared.keep.Keeper.{Ghosts}
+use Rattle.boxes.specs.declared.keep.Keeper.{Ghosts}
 use Rattle.boxes.specs.State.{State}
 use Rattle.office.specs.Connections.{IsKnown, IsStream}
 use Rattle.office.specs.Interleaved.{AnswersNone, GaveUpWithin, HasGivenUp, IsBehind, Speaks, SpeaksInTurns, Turn, acts_in, moments_in}
@@ -14,8 +14,8 @@ use Rattle.office.specs.Interleaved as said
 use Rattle.office.specs.Repeats.{Act, text_of}
 use Rattle.office.specs.Sessions.{HasBegunMessage, most_messages}
 use Rattle.office.specs.Stepping.{Goes}
-use Rattle.seats.specs.declared.session.SessionEnd.{SessionEnd}
-use Rattle.seats.specs.declared.session.SessionEnd.TheVariants.{Ended, Truncated, Refused, Limit, ReadFault, WriteFault}
+use Rattle.wire.specs.declared.session.SessionEnd.{SessionEnd}
+use Rattle.wire.specs.declared.session.SessionEnd.TheVariants.{Ended, Truncated, Refused, Limit, ReadFault, WriteFault}
 
 -- a request that was given up, and its moment
 pub record Lost : Type 0 where

@@ -4,7 +4,7 @@ use Rattle.std.specs.Io.KnownBytes.{Consumes}
 use Rattle.sigtext.specs.Bytes.{AreBytes}
 use Rattle.sigv4.specs.Hashers.{ShaHolds}
 use Rattle.sigv4.specs.declared.hash.Sha.{Sha}
-use Rattle.keeper.specs.declared.keep.Keeper.{Ghosts}
+use Rattle.boxes.specs.declared.keep.Keeper.{Ghosts}
 use Rattle.wire.specs.Feeds.{left, place_of}
 use Rattle.wire.specs.declared.feed.Feed.{Feed}
 use Rattle.wire.specs.declared.feed.Place.TheVariants as place

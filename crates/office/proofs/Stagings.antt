@@ -7,7 +7,7 @@ use Rattle.sigtext.specs.Bytes.{AreBytes}
 use Rattle.sigv4.specs.Hashers.{ShaHolds}
 use Rattle.sigv4.specs.Hmac.{sha256}
 use Rattle.sigv4.specs.declared.hash.Sha.{Sha}
-use Rattle.keeper.specs.declared.keep.Keeper.{Ghosts}
+use Rattle.boxes.specs.declared.keep.Keeper.{Ghosts}
 use Rattle.sigtext.specs.Counts.{Rose}
 use Rattle.wire.specs.Feeding.{CountsReads, Done, GivesPiece, most_piece, part}
 use Rattle.wire.specs.Feeds.{left, place_of, reader_of, waits_in}

@@ -3,14 +3,14 @@ use Rattle.std.proofs.Common.{◌≡◌, ℕ, ◌≤◌, Option, None, Some, Res
 use Rattle.std.specs.Prelude.{IsSomeAnd, OnErr}
 use Rattle.std.proofs.lemmas.Bool.{cases_lt}
 use Rattle.sigtext.specs.Counts.{Rose}
-use Rattle.keeper.specs.Bound.{StaysBy}
-use Rattle.keeper.specs.Keeping.{KeepsStaged}
-use Rattle.keeper.specs.declared.keep.KeepFault.{KeepFault}
-use Rattle.keeper.specs.declared.keep.Keeper.{Ghosts}
+use Rattle.boxes.specs.Bound.{StaysBy}
+use Rattle.boxes.specs.Keeping.{KeepsStaged}
+use Rattle.boxes.specs.declared.keep.KeepFault.{KeepFault}
+use Rattle.boxes.specs.declared.keep.Keeper.{Ghosts}
 use Rattle.office.specs.Foreseeing.{AreStaged}
 use Rattle.office.specs.declared.requests.foreseeing.Body.{Body}
-use Rattle.seats.specs.declared.session.SessionEnd.{SessionEnd}
-use Rattle.seats.specs.declared.session.SessionEnd.TheVariants.{ReadFault}
+use Rattle.wire.specs.declared.session.SessionEnd.{SessionEnd}
+use Rattle.wire.specs.declared.session.SessionEnd.TheVariants.{ReadFault}
 use Rattle.office.specs.Connections.{MayGiveUp}
 use Rattle.office.specs.Premise.{EndsUnstaged, HoldsUnless, IsFault}
 use Rattle.office.proofs.Holding.{holds_less, holds_then}

@@ -5,7 +5,7 @@ use Rattle.std.specs.List.{AllByRecursion}
 use Rattle.std.proofs.lemmas.List.{append-nil}
 use Rattle.std.proofs.lemmas.List.Elements.{filter-append}
 use Rattle.std.specs.Io.KnownBytes.{Appends, Keeps}
-use Rattle.keeper.specs.declared.keep.Keeper.{Ghosts}
+use Rattle.boxes.specs.declared.keep.Keeper.{Ghosts}
 use Rattle.sigtext.specs.Counts.{Rose}
 use Rattle.sigtext.specs.Request.{Request}
 use Rattle.boxes.specs.State.{State}
@@ -21,8 +21,8 @@ use Rattle.office.specs.Seats.{IsStreamOf}
 use Rattle.office.specs.Sessions.{EndsAtOnce, GaveUpAt, HasBegunMessage, Session, most_messages}
 use Rattle.office.specs.Sessions as session
 use Rattle.office.specs.Stepping.{Goes}
-use Rattle.seats.specs.declared.session.SessionEnd.{SessionEnd}
-use Rattle.seats.specs.declared.session.SessionEnd.TheVariants.{ReadFault}
+use Rattle.wire.specs.declared.session.SessionEnd.{SessionEnd}
+use Rattle.wire.specs.declared.session.SessionEnd.TheVariants.{ReadFault}
 use Rattle.office.proofs.Counting.{Counts, counts_more, counts_still, counts_turn, over_if, took_of}
 use Rattle.office.proofs.Endurance.{still, survives_more, survives_same, survives_through, then_survives, then_through}
 use Rattle.office.proofs.Repeats.{last_acts, none_acted}

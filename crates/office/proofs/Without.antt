@@ -11,8 +11,8 @@ use Rattle.office.specs.Sessions.{Session, Connection, Run, MayGiveUpReading, cl
 use Rattle.office.specs.Sessions as session
 use Rattle.office.specs.WithoutTryAgain.{GivesUp, IsGivenUpBy, IsCutShort, RunsWithout}
 use Rattle.office.specs.WithoutTryAgain as without
-use Rattle.seats.specs.declared.session.SessionEnd.{SessionEnd}
-use Rattle.seats.specs.declared.session.SessionEnd.TheVariants.{Ended, Refused}
+use Rattle.wire.specs.declared.session.SessionEnd.{SessionEnd}
+use Rattle.wire.specs.declared.session.SessionEnd.TheVariants.{Ended, Refused}
 
 -- ---- a message does not depend on what follows it
 

@@ -13,8 +13,8 @@ use Rattle.office.specs.Sessions as session
 use Rattle.office.specs.WithoutTryAgain.{GivesUp, IsGivenUpBy}
 use Rattle.office.specs.WithoutTryAgain as without
 use Rattle.office.specs.WithoutTurns.{AreCut, InterleavedWithout, IsThreadCut}
-use Rattle.seats.specs.declared.session.SessionEnd.{SessionEnd}
-use Rattle.seats.specs.declared.session.SessionEnd.TheVariants.{Ended}
+use Rattle.wire.specs.declared.session.SessionEnd.{SessionEnd}
+use Rattle.wire.specs.declared.session.SessionEnd.TheVariants.{Ended}
 use Rattle.office.proofs.Without.{message_text, session_cut}
 
 -- ---- moments are those of acts, unless a message was given up

@@ -6,8 +6,8 @@ use Rattle.sigtext.specs.Request.{Request}
 use Rattle.boxes.specs.Changes.{IsObeyed}
 use Rattle.boxes.specs.State.{State}
 use Rattle.boxes.specs.Steps.{Command, StepReply}
-use Rattle.keeper.specs.Keeping.{LeavesAlone}
-use Rattle.keeper.specs.declared.keep.Keeper.{Ghosts}
+use Rattle.boxes.specs.Keeping.{LeavesAlone}
+use Rattle.boxes.specs.declared.keep.Keeper.{Ghosts}
 use Rattle.office.specs.declared.requests.commanding.DeskFault.{DeskFault}
 use Rattle.office.specs.declared.requests.commanding.DeskFault.TheVariants as fault
 use Rattle.office.specs.Answering.{AcceptsRequest}

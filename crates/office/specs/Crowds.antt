@@ -2,11 +2,11 @@
 use Rattle.std.specs.Prelude.{◌≡◌, ◌+◌, ℕ, Bool, false, List, ◌++◌, IsPermutation, length, map, Option, Some, None}
 use Rattle.std.specs.List.{AllByRecursion, count_by, sum_by}
 use Rattle.boxes.specs.State.{State}
-use Rattle.keeper.specs.declared.keep.Keeper.{Ghosts}
-use Rattle.seats.specs.Crowds.{standing_in}
-use Rattle.seats.specs.Ends.{is_fault}
-use Rattle.seats.specs.declared.seat.Seat.{Seat}
-use Rattle.seats.specs.declared.session.SessionEnd.{SessionEnd}
+use Rattle.boxes.specs.declared.keep.Keeper.{Ghosts}
+use Rattle.wire.specs.Crowds.{standing_in}
+use Rattle.wire.specs.Ends.{is_fault}
+use Rattle.wire.specs.declared.seat.Seat.{Seat}
+use Rattle.wire.specs.declared.session.SessionEnd.{SessionEnd}
 use Rattle.office.specs.Connections.{TellsMoments}
 use Rattle.office.specs.Crashes.{Survives}
 use Rattle.office.specs.Interleaved.{GaveUpWithinMessages, HaveGivenUp, Interleaved, SpeakInTurns, Thread, acts_in}

@@ -5,7 +5,7 @@ use Rattle.boxes.specs.Commands.{HasForm}
 use Rattle.boxes.specs.State.{State}
 use Rattle.boxes.specs.Steps.{Command, IsPossible}
 use Rattle.desk.specs.Texts.{IsCommand}
-use Rattle.keeper.specs.declared.keep.KeepFault.TheVariants.{Full}
+use Rattle.boxes.specs.declared.keep.KeepFault.TheVariants.{Full}
 use Rattle.office.specs.declared.requests.commanding.DeskFault.{DeskFault}
 use Rattle.office.specs.declared.requests.commanding.DeskFault.TheVariants as fault
 use Rattle.office.specs.Premise.{IsLeft}

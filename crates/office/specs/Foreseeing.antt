@@ -15,7 +15,7 @@ use Rattle.links.specs.LinkReadings.{IsLinkOf}
 use Rattle.boxes.specs.State.{Key, State}
 use Rattle.boxes.specs.Rows.{settings_of}
 use Rattle.boxes.specs.Rules.{PlaceRule}
-use Rattle.keeper.specs.declared.keep.Keeper.{Ghosts}
+use Rattle.boxes.specs.declared.keep.Keeper.{Ghosts}
 use Rattle.office.specs.declared.requests.foreseeing.Errand.{Errand}
 use Rattle.office.specs.declared.requests.foreseeing.Errand.TheVariants as errand
 use Rattle.office.specs.declared.requests.foreseeing.Prospect.{Prospect}

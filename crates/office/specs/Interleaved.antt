@@ -10,8 +10,8 @@ use Rattle.office.specs.Readable.{IsReadable}
 use Rattle.office.specs.Repeats.{Act, Acts, text_of}
 use Rattle.office.specs.Sessions.{Connection, HasBegunMessage, Session, most_messages}
 use Rattle.office.specs.WithoutTryAgain.{IsLastRefusal}
-use Rattle.seats.specs.declared.session.SessionEnd.{SessionEnd}
-use Rattle.seats.specs.declared.session.SessionEnd.TheVariants.{WriteFault}
+use Rattle.wire.specs.declared.session.SessionEnd.{SessionEnd}
+use Rattle.wire.specs.declared.session.SessionEnd.TheVariants.{WriteFault}
 
 -- one turn: its connection, the moments that were told in it, and the acts for its messages
 pub record Turn : Type 0 where

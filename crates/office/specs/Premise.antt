@@ -5,8 +5,8 @@ use Rattle.sigtext.specs.declared.refusal.Refusal.TheVariants as rule
 use Rattle.sigtext.specs.Counts.{Rose}
 use Rattle.boxes.specs.State.{State}
 use Rattle.boxes.specs.Sound.{IsSound}
-use Rattle.keeper.specs.declared.keep.KeepFault.{KeepFault}
-use Rattle.keeper.specs.declared.keep.Keeper.{Ghosts}
+use Rattle.boxes.specs.declared.keep.KeepFault.{KeepFault}
+use Rattle.boxes.specs.declared.keep.Keeper.{Ghosts}
 
 -- The keeper meant this state before a call, and the state is sound. The keeper is honest after the call.
 pub record WasKept {K : Type 0} (k : Ghosts K) (old new : K) (s : State) : Type 0 where

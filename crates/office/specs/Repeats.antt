@@ -15,8 +15,8 @@ use Rattle.office.specs.Readable.{IsReadable}
 use Rattle.office.specs.Rules.{IsPut, IsPost, place_of, Asks}
 use Rattle.office.specs.Sessions.{Session, Connection, most_messages}
 use Rattle.office.specs.WithoutTryAgain.{IsLastRefusal}
-use Rattle.seats.specs.declared.session.SessionEnd.{SessionEnd}
-use Rattle.seats.specs.declared.session.SessionEnd.TheVariants.{WriteFault}
+use Rattle.wire.specs.declared.session.SessionEnd.{SessionEnd}
+use Rattle.wire.specs.declared.session.SessionEnd.TheVariants.{WriteFault}
 
 -- what was done for one message
 pub record Act : Type 0 where

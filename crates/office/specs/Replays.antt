@@ -4,10 +4,10 @@ use Rattle.std.specs.Borrow.{Bor}
 use Rattle.std.specs.List.{count_by}
 use Rattle.std.specs.Io.KnownBytes.{Appends}
 use Rattle.boxes.specs.State.{State}
-use Rattle.keeper.specs.declared.keep.Keeper.{Ghosts}
-use Rattle.seats.specs.declared.session.SessionEnd.{SessionEnd}
-use Rattle.seats.specs.declared.session.SessionEnd.TheVariants.{ReadFault}
-use Rattle.seats.specs.Ends.{is_fault}
+use Rattle.boxes.specs.declared.keep.Keeper.{Ghosts}
+use Rattle.wire.specs.declared.session.SessionEnd.{SessionEnd}
+use Rattle.wire.specs.declared.session.SessionEnd.TheVariants.{ReadFault}
+use Rattle.wire.specs.Ends.{is_fault}
 use Rattle.office.specs.Connections.{IsStream, LastsOverAll, StaysOpen}
 use Rattle.office.specs.Crashes.{Survives}
 use Rattle.office.specs.Sessions.{Connection, GaveUpIn, Run, Session, most_messages}

@@ -4,11 +4,11 @@ use Rattle.std.specs.Io.KnownBytes.{Appends, Consumes}
 use Rattle.std.specs.List.{AllByRecursion}
 use Rattle.sigtext.specs.Counts.{Rose}
 use Rattle.boxes.specs.State.{State}
-use Rattle.keeper.specs.declared.keep.Keeper.{Ghosts}
-use Rattle.seats.specs.Seats.{left_of}
-use Rattle.seats.specs.declared.seat.Seat.{Seat}
-use Rattle.seats.specs.declared.session.SessionEnd.{SessionEnd}
-use Rattle.seats.specs.declared.session.SessionEnd.TheVariants.{ReadFault}
+use Rattle.boxes.specs.declared.keep.Keeper.{Ghosts}
+use Rattle.wire.specs.Seats.{left_of}
+use Rattle.wire.specs.declared.seat.Seat.{Seat}
+use Rattle.wire.specs.declared.session.SessionEnd.{SessionEnd}
+use Rattle.wire.specs.declared.session.SessionEnd.TheVariants.{ReadFault}
 use Rattle.office.specs.Connections.{IsStream, Serves}
 use Rattle.office.specs.Crashes.{LastsThrough}
 use Rattle.office.specs.Interleaved.{Thread, Turn, turns_by}

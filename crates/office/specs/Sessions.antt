@@ -11,8 +11,8 @@ use Rattle.wire.specs.Framing.{Next, request_of}
 use Rattle.wire.specs.Framing as frame
 use Rattle.wire.specs.Feeding.{Awaits, Opens}
 use Rattle.sigtext.specs.Bytes.{IsBeginning}
-use Rattle.seats.specs.declared.session.SessionEnd.{SessionEnd}
-use Rattle.seats.specs.declared.session.SessionEnd.TheVariants.{Ended, Truncated, Refused, Limit, ReadFault, WriteFault}
+use Rattle.wire.specs.declared.session.SessionEnd.{SessionEnd}
+use Rattle.wire.specs.declared.session.SessionEnd.TheVariants.{Ended, Truncated, Refused, Limit, ReadFault, WriteFault}
 use Rattle.office.specs.Answering.{AnswersRequest}
 use Rattle.office.specs.Readable.{IsReadable}
 

@@ -8,8 +8,8 @@ use Rattle.wire.specs.Framing.{Next}
 use Rattle.wire.specs.Framing as frame
 use Rattle.office.specs.Readable.{IsReadable}
 use Rattle.office.specs.Sessions.{HasBegunMessage, Session, Connection, Run, closing, most_messages}
-use Rattle.seats.specs.declared.session.SessionEnd.{SessionEnd}
-use Rattle.seats.specs.declared.session.SessionEnd.TheVariants.{Ended, Refused, ReadFault, WriteFault}
+use Rattle.wire.specs.declared.session.SessionEnd.{SessionEnd}
+use Rattle.wire.specs.declared.session.SessionEnd.TheVariants.{Ended, Refused, ReadFault, WriteFault}
 
 -- Where a connection gave up: what was answered of its stream, what was left, and the moments that it took
 -- there. It was at a readable message, with one moment; or within a message that had begun, or before

@@ -3,8 +3,8 @@ use Rattle.std.specs.Prelude.{◌≡◌, ◌⊎◌, ℕ, suc, true, false, List,
 use Rattle.boxes.specs.State.{State}
 use Rattle.office.specs.Interleaved.{Interleaved, Thread, Turn, acts_in, own_moments}
 use Rattle.office.specs.WithoutTryAgain.{GivesUp, IsGivenUpBy}
-use Rattle.seats.specs.declared.session.SessionEnd.{SessionEnd}
-use Rattle.seats.specs.declared.session.SessionEnd.TheVariants.{Ended}
+use Rattle.wire.specs.declared.session.SessionEnd.{SessionEnd}
+use Rattle.wire.specs.declared.session.SessionEnd.TheVariants.{Ended}
 
 -- The connection c gave up. d is c with its stream cut before the message at which c gave up: everything
 -- before that is answered as it was, and refusal 40 is not written. moments and told: the moments of c and of

@@ -1,5 +1,5 @@
 //! The office.
-use keeper::Keeper;
+use boxes::Keeper;
 use sigv4::LastKey;
 use std::alloc::Global;
 

@@ -5,8 +5,8 @@ use Rattle.std.specs.List.{count_by}
 use Rattle.std.specs.declared.io.Error.{Error}
 use Rattle.std.proofs.lemmas.List.{length-append}
 use Rattle.std.proofs.lemmas.List.Sums.{sum_by-append}
-use Rattle.seats.specs.Crowds.{those_of}
-use Rattle.seats.specs.declared.seat.Seat.{Seat}
+use Rattle.wire.specs.Crowds.{those_of}
+use Rattle.wire.specs.declared.seat.Seat.{Seat}
 use Rattle.wire.specs.declared.gathered.Gathered.{Gathered}
 use Rattle.wire.specs.declared.outbox.Outbox.{Outbox}
 use Rattle.peers.specs.Counts.{Counts, is_closing, is_opening}

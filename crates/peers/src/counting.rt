@@ -3,17 +3,16 @@ ghost use Rattle.std.specs.Prelude.{◌≡◌, ◌++◌, ◌∷◌, [], IfOk, Li
 ghost use Rattle.peers.specs.Counts.{Counts};
 ghost use Rattle.sockets.specs.Listening.{Event, closed};
 
-use keeper::Keeper;
+use boxes::Keeper;
 use mio::Poll;
 use office::{Clock, Office};
-use seats::Seat;
 use service::{Served, serve};
 use sockets::{Limits, Listener, TcpEnd, Unready};
 use std::alloc::Global;
 use std::net::TcpListener;
 use std::os::fd::{AsRawFd, RawFd};
 use std::{io, time};
-use wire::{Gathered, Outbox};
+use wire::{Gathered, Outbox, Seat};
 
 /// A listener that counts the connections it opens and closes. A count stops at 2^64 - 1.
 #[derive(Drop)]

@@ -2,7 +2,6 @@
 use crate::counting::{Counting, serve_counted};
 use mio::Poll;
 use office::FixedClock;
-use seats::Seat;
 use service::{Outcome, serve};
 use sigv4::Moment;
 use sockets::{End, Limits, Listener, TcpEnd};
@@ -11,7 +10,7 @@ use std::net::{Shutdown, TcpListener, TcpStream};
 use std::test::Fail;
 use std::time::Duration;
 use trials::published::{DATE, NO_BOX, REQUEST, make_office};
-use wire::{Gathered, Outbox};
+use wire::{Gathered, Outbox, Seat};
 
 // Limits of `connections` connections, at most `open` open at a time, and a timeout of one second.
 fn limits(connections: u64, open: usize) -> Limits {

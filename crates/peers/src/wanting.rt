@@ -1,7 +1,6 @@
 //! A listener while the system has no descriptor left.
 use mio::Poll;
 use office::FixedClock;
-use seats::Seat;
 use service::serve;
 use sigv4::Moment;
 use sockets::{Limits, Listener, TcpEnd, Unready};
@@ -13,7 +12,7 @@ use std::os::fd::{AsRawFd, RawFd};
 use std::test::Fail;
 use std::time::Duration;
 use trials::published::{DATE, REQUEST, make_office};
-use wire::{Gathered, Outbox};
+use wire::{Gathered, Outbox, Seat};
 
 /// The system's error number for "no descriptor left" (ENFILE).
 const NO_DESCRIPTOR: i32 = 23;

@@ -1,7 +1,7 @@
 -- The promise of a service, for equal slots and an equal bound.
 use Rattle.std.proofs.Common.{◌≡◌, ◌++◌, ℕ, suc, zero, List, [], ◌∷◌, Option, ap, length, refl, subst, take, arith}
-use Rattle.keeper.specs.declared.keep.Keeper.{Ghosts}
-use Rattle.seats.specs.declared.seat.Seat.{Seat}
+use Rattle.boxes.specs.declared.keep.Keeper.{Ghosts}
+use Rattle.wire.specs.declared.seat.Seat.{Seat}
 use Rattle.wire.specs.declared.gathered.Gathered.{Gathered}
 use Rattle.wire.specs.declared.outbox.Outbox.{Outbox}
 use Rattle.service.specs.Serving.{ServesMany}

@@ -2,11 +2,11 @@
 use Rattle.std.specs.Prelude.{◌≡◌, ◌≤◌, ◌+◌, ◌++◌, zero, suc, ℕ, List, None, Option, length, true}
 use Rattle.std.specs.List.{count_by}
 use Rattle.boxes.specs.State.{State}
-use Rattle.keeper.specs.declared.keep.Keeper.{Ghosts}
+use Rattle.boxes.specs.declared.keep.Keeper.{Ghosts}
 use Rattle.wire.specs.declared.gathered.Gathered.{Gathered}
 use Rattle.wire.specs.declared.outbox.Outbox.{Outbox}
-use Rattle.seats.specs.Crowds.{slot_at, those_of}
-use Rattle.seats.specs.declared.seat.Seat.{Seat}
+use Rattle.wire.specs.Crowds.{slot_at, those_of}
+use Rattle.wire.specs.declared.seat.Seat.{Seat}
 use Rattle.office.specs.Crowds.{ServesCrowd}
 use Rattle.office.specs.Premise.{IsLeft, WasKept}
 use Rattle.sockets.specs.Accepting.{Admits, HasGiven, lacks_answers}

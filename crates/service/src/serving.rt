@@ -1,19 +1,18 @@
 //! Serving a listener's connections in turns by an office.
 ghost use Rattle.std.specs.Prelude.{◌≡◌, ◌≤◌, ◌+◌, ℕ, List, cond, length, IfErr, IfOk, None, true};
-ghost use Rattle.seats.specs.Crowds.{slot_at};
+ghost use Rattle.wire.specs.Crowds.{slot_at};
 ghost use Rattle.office.specs.Premise.{StaysUnstaged};
 ghost use Rattle.sockets.specs.Listening.{Event};
 ghost use Rattle.service.specs.Serving.{ServesMany, at_least_one};
 
-use keeper::Keeper;
+use boxes::Keeper;
 use mio::Poll;
 use office::{Clock, Office};
-use seats::Seat;
 use sockets::{Book, Gate, Held, Limits, Listener, Sockets, Start, prepare};
 use std::io::{Read, Write};
 use std::marker::Brand;
 use std::{io, time};
-use wire::{Gathered, Outbox};
+use wire::{Gathered, Outbox, Seat};
 
 /// The outcome of a service.
 #[derive(Clone, Copy, Debug, PartialEq, Eq)]

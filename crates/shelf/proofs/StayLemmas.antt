@@ -4,10 +4,10 @@ use Rattle.std.specs.Prelude.{◌≢◌, Result, Vec, IfErr, OnOk, IsErrOf}
 use Rattle.std.specs.declared.alloc.Global.{Global}
 use Rattle.sigtext.specs.Counts.{CountsErrors}
 use Rattle.boxes.specs.State.{State}
-use Rattle.keeper.specs.declared.keep.KeepFault.{KeepFault}
-use Rattle.keeper.specs.declared.keep.KeepFault.TheVariants.{Memory, Full, Store}
+use Rattle.boxes.specs.declared.keep.KeepFault.{KeepFault}
+use Rattle.boxes.specs.declared.keep.KeepFault.TheVariants.{Memory, Full, Store}
 use Rattle.shelf.specs.declared.shelf.Shelf.{Shelf}
-use Rattle.keeper.specs.Keeping.{Stays}
+use Rattle.boxes.specs.Keeping.{Stays}
 use Rattle.shelf.specs.Shelves.{Holds}
 use Rattle.shelf.specs.OneState.{one_state}
 

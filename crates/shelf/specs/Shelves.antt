@@ -11,8 +11,8 @@ use Rattle.boxes.specs.State.{Key, Place, place_cmp, File, Receipt, Settings, Li
 use Rattle.boxes.specs.Rows.{key_of, settings_of, numbered, numbered_receipt}
 use Rattle.boxes.specs.Clerks.{clerks}
 use Rattle.boxes.specs.Views.{AreTotals}
-use Rattle.keeper.specs.declared.keep.KeepFault.{KeepFault}
-use Rattle.keeper.specs.declared.keep.KeepFault.TheVariants.{Memory}
+use Rattle.boxes.specs.declared.keep.KeepFault.{KeepFault}
+use Rattle.boxes.specs.declared.keep.KeepFault.TheVariants.{Memory}
 use Rattle.shelf.specs.declared.shelf.ShelvedBox.{ShelvedBox}
 use Rattle.shelf.specs.declared.shelf.StoredFile.{StoredFile}
 use Rattle.shelf.specs.declared.shelf.Shelf.{Shelf}

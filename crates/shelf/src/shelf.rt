@@ -13,8 +13,7 @@ ghost use Rattle.boxes.specs.Changes.{most_receipts};
 ghost use Rattle.shelf.specs.Shelves.{Holds, Looks, place_of};
 
 use crate::copies::{copy_box, copy_key, copy_receipt, copy_receipts};
-use boxes::{BoxRow, FileRow, KeyRow, OfficeRow, ReceiptRow, Role, Totals};
-use keeper::KeepFault;
+use boxes::{BoxRow, FileRow, KeepFault, KeyRow, OfficeRow, ReceiptRow, Role, Totals};
 use std::alloc::{AllocError, Global};
 use std::collections::{BTreeMap, BTreeSet};
 

@@ -8,8 +8,9 @@ ghost use Rattle.shelf.specs.OneState.{one_state, one_text};
 
 use crate::shelf::Shelf;
 use crate::shelving::new_key;
-use boxes::{BoxRow, Change, FileRow, KeyRow, OfficeRow, ReceiptRow, Role, Totals};
-use keeper::{KeepFault, Keeper};
+use boxes::{
+    BoxRow, Change, FileRow, KeepFault, Keeper, KeyRow, OfficeRow, ReceiptRow, Role, Totals,
+};
 use std::alloc::Global;
 use std::collections::BTreeMap;
 

@@ -16,8 +16,7 @@ ghost use Rattle.shelf.specs.Shelves.{Holds, LimitsMean, bytes_of, place_of, she
 
 use crate::copies::copy_box;
 use crate::shelf::{Shelf, ShelvedBox, StoredFile, acting, has_room, new_place};
-use boxes::{BoxRow, Command, KeyRow, NewFile, ReceiptRow, Role, Totals};
-use keeper::KeepFault;
+use boxes::{BoxRow, Command, KeepFault, KeyRow, NewFile, ReceiptRow, Role, Totals};
 use sigv4::Allowance;
 use std::alloc::{AllocError, Global};
 use std::collections::{BTreeMap, BTreeSet};

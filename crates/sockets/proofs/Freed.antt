@@ -2,13 +2,13 @@
 use Rattle.std.proofs.Common.{⊎_elim, ◌≡◌, ◌≤◌, ◌↔◌, Bool, true, false, ◌<◌, ◌+◌, ◌++◌, ◌⊎◌, ◌∙◌, ap, inl, inr, length, slice_set, subst, sym, Some, ℕ, suc, zero, List, [], ◌∷◌, Option, None, refl, arith}
 use Rattle.std.specs.Prelude.{IfSome}
 use Rattle.std.proofs.lemmas.Bool.{cases_lt}
-use Rattle.seats.specs.Crowds.{SentAt, slot_at}
-use Rattle.seats.specs.Seats.{Sends}
-use Rattle.seats.specs.Slots.{SendsOn}
+use Rattle.wire.specs.Crowds.{SentAt, slot_at}
+use Rattle.wire.specs.Seats.{Sends}
+use Rattle.wire.specs.Slots.{SendsOn}
 use Rattle.wire.specs.Feeds.{ahead_of}
 use Rattle.wire.specs.Gathering.{HasFailed, ahead_in}
 use Rattle.wire.specs.Outgoing.{waits_out}
-use Rattle.seats.specs.declared.seat.Seat.{Seat}
+use Rattle.wire.specs.declared.seat.Seat.{Seat}
 use Rattle.wire.specs.declared.gathered.Gathered.{Gathered}
 use Rattle.wire.specs.declared.outbox.Outbox.{Outbox}
 use Rattle.wire.specs.declared.outbox.Sending.{Sending}

@@ -2,9 +2,9 @@
 use Rattle.std.proofs.Common.{◌≡◌, ◌<◌, ◌≤◌, ◌+◌, ◌++◌, ℕ, List, [], ◌∷◌, Option, length, sym, subst, arith}
 use Rattle.std.specs.List.{AllByRecursion}
 use Rattle.std.proofs.lemmas.List.{append-nil, length_push}
-use Rattle.seats.specs.Crowds.{AreAmong, Changes, IsOpenAt, numbers_after}
-use Rattle.seats.specs.declared.seat.Seat.{Seat}
-use Rattle.seats.proofs.Changing.{among_after}
+use Rattle.wire.specs.Crowds.{AreAmong, Changes, IsOpenAt, numbers_after}
+use Rattle.wire.specs.declared.seat.Seat.{Seat}
+use Rattle.wire.proofs.Changing.{among_after}
 use Rattle.sockets.specs.Accepting.{HasGiven}
 
 all_below : (n m : ℕ) (given : List ℕ) → n ≤ m → AllByRecursion (λ k. k < n) given → AllByRecursion (λ k. k < m) given

@@ -5,10 +5,10 @@ use Rattle.std.specs.List.{count_by}
 use Rattle.std.specs.declared.io.Error.{Error}
 use Rattle.std.proofs.lemmas.List.{append-nil, length-append}
 use Rattle.std.proofs.lemmas.List.Sums.{sum_by-append}
-use Rattle.seats.specs.Crowds.{Changes, same, those_of}
-use Rattle.seats.specs.declared.seat.Seat.{Seat}
-use Rattle.seats.specs.Seats.{IsNew}
-use Rattle.seats.proofs.Changing.{changes_then}
+use Rattle.wire.specs.Crowds.{Changes, same, those_of}
+use Rattle.wire.specs.declared.seat.Seat.{Seat}
+use Rattle.wire.specs.Seats.{IsNew}
+use Rattle.wire.proofs.Changing.{changes_then}
 use Rattle.wire.specs.declared.gathered.Gathered.{Gathered}
 use Rattle.wire.specs.declared.outbox.Outbox.{Outbox}
 use Rattle.sockets.specs.Accepting.{Admits, IsUntouched, MayGo, lacks_answers}

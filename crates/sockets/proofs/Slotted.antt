@@ -2,7 +2,7 @@
 use Rattle.std.proofs.Common.{◌≡◌, ◌∙◌, ℕ, List, Option, Some, None, subst, sym, arith}
 use Rattle.std.specs.Prelude.{IfSome}
 use Rattle.std.specs.List.{ItemBy}
-use Rattle.seats.specs.Crowds.{slot_at}
+use Rattle.wire.specs.Crowds.{slot_at}
 
 module _ {X : Type 0} where
   -- the one that is there

@@ -3,9 +3,9 @@ use Rattle.std.proofs.Common.{◌≡◌, ◌≤◌, ◌↔◌, ◌<◌, ◌-◌,
 use Rattle.std.specs.Prelude.{IfNone, IfSome, is_some}
 use Rattle.std.proofs.lemmas.List.{length-append}
 use Rattle.std.specs.declared.io.Error.{Error}
-use Rattle.seats.specs.Crowds.{DoneAt, NoneIsFree, slot_at}
-use Rattle.seats.specs.Slots.{ReadsAhead}
-use Rattle.seats.specs.declared.seat.Seat.{Seat}
+use Rattle.wire.specs.Crowds.{DoneAt, NoneIsFree, slot_at}
+use Rattle.wire.specs.Slots.{ReadsAhead}
+use Rattle.wire.specs.declared.seat.Seat.{Seat}
 use Rattle.wire.specs.Gathering.{Gathers, ahead_in}
 use Rattle.wire.specs.declared.gathered.Gathered.{Gathered}
 use Rattle.wire.specs.declared.gathered.Gathering.{Gathering}

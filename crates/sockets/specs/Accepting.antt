@@ -7,10 +7,10 @@ use Rattle.wire.specs.Gathering.{HasFailed, ahead_in}
 use Rattle.wire.specs.Outgoing.{NoneFailed, WriteFailed, waits_out}
 use Rattle.wire.specs.declared.gathered.Gathered.{Gathered}
 use Rattle.wire.specs.declared.outbox.Outbox.{Outbox}
-use Rattle.seats.specs.Seats.{IsNew}
-use Rattle.seats.specs.declared.seat.Seat.{Seat}
-use Rattle.seats.specs.declared.session.SessionEnd.{SessionEnd}
-use Rattle.seats.specs.declared.session.SessionEnd.TheVariants.{Ended, Truncated, Refused, Limit, ReadFault, WriteFault}
+use Rattle.wire.specs.Seats.{IsNew}
+use Rattle.wire.specs.declared.seat.Seat.{Seat}
+use Rattle.wire.specs.declared.session.SessionEnd.{SessionEnd}
+use Rattle.wire.specs.declared.session.SessionEnd.TheVariants.{Ended, Truncated, Refused, Limit, ReadFault, WriteFault}
 use Rattle.sockets.specs.Listening.{Event, IsWant, accepted, closed, missed, opened, unready}
 
 -- no bytes of the connection are ahead or waiting, and no read has failed

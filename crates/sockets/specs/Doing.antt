@@ -1,8 +1,8 @@
 -- What an action does to the connection in a slot, and its report.
 use Rattle.std.specs.Prelude.{◌≡◌, ◌≤◌, ◌↔◌, ◌⊎◌, ◌+◌, ℕ, Bool, true, List, Option, Result, Ok, Some, None, IsNone, IsOk, length, min, slice_set, ⊤}
-use Rattle.seats.specs.Crowds.{DoneAt, SentAt, slot_at}
-use Rattle.seats.specs.Slots.{Fails, MakesRoom, PutsBack, ReadsAhead, SendsOn}
-use Rattle.seats.specs.declared.seat.Seat.{Seat}
+use Rattle.wire.specs.Crowds.{DoneAt, SentAt, slot_at}
+use Rattle.wire.specs.Slots.{Fails, MakesRoom, PutsBack, ReadsAhead, SendsOn}
+use Rattle.wire.specs.declared.seat.Seat.{Seat}
 use Rattle.wire.specs.declared.gathered.Gathered.{Gathered}
 use Rattle.wire.specs.Gathering.{ahead_in}
 use Rattle.wire.specs.declared.gathered.Gathering.{Gathering}

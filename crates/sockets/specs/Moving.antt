@@ -1,8 +1,8 @@
 -- What happened at the gate and in the slots, and what was counted.
 use Rattle.std.specs.Prelude.{◌≡◌, ◌+◌, ◌++◌, ℕ, List, Option, length}
 use Rattle.std.specs.List.{count_by}
-use Rattle.seats.specs.Crowds.{Changes, those_of}
-use Rattle.seats.specs.declared.seat.Seat.{Seat}
+use Rattle.wire.specs.Crowds.{Changes, those_of}
+use Rattle.wire.specs.declared.seat.Seat.{Seat}
 use Rattle.wire.specs.declared.gathered.Gathered.{Gathered}
 use Rattle.wire.specs.declared.outbox.Outbox.{Outbox}
 use Rattle.sockets.specs.Accepting.{Admits, lacks_answers}

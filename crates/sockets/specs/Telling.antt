@@ -1,8 +1,8 @@
 -- What a gate tells of connections that may come.
 use Rattle.std.specs.Prelude.{◌≡◌, ◌<◌, ◌≤◌, ◌⊎◌, ◌-◌, ◌++◌, ◌∷◌, suc, List, [], Option, Some, None, length, slice_set}
 use Rattle.std.specs.declared.io.Error.{Error}
-use Rattle.seats.specs.Crowds.{NoneIsFree, slot_at}
-use Rattle.seats.specs.declared.seat.Seat.{Seat}
+use Rattle.wire.specs.Crowds.{NoneIsFree, slot_at}
+use Rattle.wire.specs.declared.seat.Seat.{Seat}
 use Rattle.wire.specs.declared.gathered.Gathered.{Gathered}
 use Rattle.wire.specs.declared.outbox.Outbox.{Outbox}
 use Rattle.sockets.specs.Accepting.{IsUntouched}

@@ -1,17 +1,19 @@
 //! What the loop does to the connections in their slots.
 ghost use Rattle.std.specs.Prelude.{◌≡◌, ◌<◌, ◌≤◌, ◌↔◌, ℕ, [], length, min, true, IfSome, IsFalse, IsTrue, Ok};
-ghost use Rattle.seats.specs.Crowds.{Changes, DoneAt, slot_at};
+ghost use Rattle.wire.specs.Crowds.{Changes, DoneAt, slot_at};
 ghost use Rattle.sockets.specs.Accepting.{IsThrough};
 ghost use Rattle.sockets.specs.Doing.{IsBusyAt, ReadsAsMuch};
 
 use crate::gate::Gate;
 use crate::held::{Held, ahead_len, is_through};
 use crate::socket::Listener;
-use seats::{fail_slot, gather_slot, make_room_in_slot, send_slot, settle_slot};
 use std::alloc::AllocError;
 use std::io;
 use std::io::{ErrorKind, Read, Write};
-use wire::{Gathered, Gathering, Outbox, Room, Sending};
+use wire::{
+    Gathered, Gathering, Outbox, Room, Sending, fail_slot, gather_slot, make_room_in_slot,
+    send_slot, settle_slot,
+};
 
 /// An action on a connection.
 #[derive(Clone, Copy)]

@@ -1,17 +1,16 @@
 //! The gate: which connections are accepted, which come into a slot, and which leave one.
 ghost use Rattle.std.specs.Prelude.{◌≡◌, ◌<◌, ◌≤◌, ◌⊎◌, ◌↔◌, ◌∷◌, ◌+◌, ◌-◌, ℕ, [], is_some, length, slice_set, false, true, IfSome, None, Some};
-ghost use Rattle.seats.specs.Crowds.{Changes, slot_at};
-ghost use Rattle.seats.specs.Seats.{IsNew};
+ghost use Rattle.wire.specs.Crowds.{Changes, slot_at};
+ghost use Rattle.wire.specs.Seats.{IsNew};
 ghost use Rattle.sockets.specs.Accepting.{MayGo};
 ghost use Rattle.sockets.specs.Listening.{IsWant};
 
 use crate::held::{Held, lacking, new_seat};
 use crate::socket::{Listener, Unready};
-use seats::{first_free, free_slot, open_slot};
 use std::alloc::Global;
 use std::io;
 use std::io::{ErrorKind, Read, Write};
-use wire::{Gathered, Outbox};
+use wire::{Gathered, Outbox, first_free, free_slot, open_slot};
 
 /// The result of asking for a connection.
 #[derive(Clone, Copy)]

@@ -1,15 +1,14 @@
 //! The connections in their slots, as the loop sees them.
 ghost use Rattle.std.specs.Prelude.{◌≡◌, ◌≤◌, ◌↔◌, ◌∷◌, [], length, IfSome, IsSomeAnd, IsTrue};
 ghost use Rattle.std.specs.List.{count_by};
-ghost use Rattle.seats.specs.Crowds.{slot_at};
-ghost use Rattle.seats.specs.Seats.{IsNew};
+ghost use Rattle.wire.specs.Crowds.{slot_at};
+ghost use Rattle.wire.specs.Seats.{IsNew};
 ghost use Rattle.wire.specs.Gathering.{ahead_in};
 ghost use Rattle.sockets.specs.Accepting.{IsIdle, IsThrough, IsUntouched, is_write_fault, lacks_answers};
 
-use seats::{Seat, SessionEnd};
 use std::alloc::Global;
 use std::io::{Read, Write};
-use wire::{Gathered, Outbox};
+use wire::{Gathered, Outbox, Seat, SessionEnd};
 
 /// A connection in its slot.
 pub type Held<S> = Seat<Gathered<S>, Outbox<S>>;

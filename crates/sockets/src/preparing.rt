@@ -1,6 +1,6 @@
 //! What a run of the loop begins with.
 ghost use Rattle.std.specs.Prelude.{◌≡◌, ℕ, length, IfOk, None};
-ghost use Rattle.seats.specs.Crowds.{slot_at};
+ghost use Rattle.wire.specs.Crowds.{slot_at};
 
 use crate::book::{Book, LISTENER, Lists, Turns};
 use crate::held::Held;

@@ -6,11 +6,10 @@ use crate::peer::Phase;
 use crate::socket::{End, Listener};
 use mio::unix::SourceFd;
 use mio::{Interest, Poll, Token};
-use seats::SessionEnd;
 use std::io::ErrorKind;
 use std::os::fd::RawFd;
 use std::{mem, time};
-use wire::{Room, Sending};
+use wire::{Room, Sending, SessionEnd};
 
 impl<R: time::Clock, L: Listener> Book<'_, R, L> {
     /// The feed returned this room, if it had one. After a turn the waiting bytes are sent.

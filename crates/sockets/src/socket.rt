@@ -1,16 +1,15 @@
 //! The interface to a listener and to the two ends of each of its connections.
 ghost use Rattle.std.specs.Prelude.{◌≡◌, ◌++◌, ◌∷◌, [], IfErr, IfOk, IfSome, List, is_some, map, true};
-ghost use Rattle.seats.specs.Crowds.{those_of};
+ghost use Rattle.wire.specs.Crowds.{those_of};
 ghost use Rattle.sockets.specs.Listening.{Event, accepted, closed, missed, opened, unready};
 
-use seats::Seat;
 use std::alloc::{AllocError, Global};
 use std::io;
 use std::io::{ErrorKind, Read, Write};
 use std::net::{Shutdown, TcpListener, TcpStream};
 use std::os::fd::{AsRawFd, OwnedFd, RawFd};
 use std::rc::Rc;
-use wire::{Gathered, Outbox};
+use wire::{Gathered, Outbox, Seat};
 
 /// One end of a connection, for reading from the peer or for writing to it. Neither waits.
 pub trait End: Read + Write + Drop {

@@ -1,6 +1,6 @@
 //! The sockets of a listener's peers, as the crowd around an office.
 ghost use Rattle.std.specs.Prelude.{◌≡◌, ◌<◌, true};
-ghost use Rattle.seats.specs.Crowds.{IsOpenAt};
+ghost use Rattle.wire.specs.Crowds.{IsOpenAt};
 ghost use Rattle.sockets.specs.Moving.{Moves};
 
 use crate::book::Book;
@@ -9,11 +9,10 @@ use crate::held::{Held, seat_at};
 use crate::socket::Listener;
 use crate::stages::{Step, Task};
 use crate::start::Start;
-use seats::{Crowd, Due};
 use std::io::{Read, Write};
 use std::marker::PhantomData;
 use std::time;
-use wire::{Gathered, Outbox, Room};
+use wire::{Crowd, Due, Gathered, Outbox, Room};
 
 /// The sockets of a listener's peers.
 #[derive(Drop)]

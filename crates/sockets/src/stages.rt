@@ -8,11 +8,10 @@ use crate::peer::Phase;
 use crate::socket::Listener;
 use mio::Token;
 use mio::event::Event;
-use seats::Due;
 use std::io::ErrorKind;
 use std::time;
 use std::time::{Duration, Instant};
-use wire::Room;
+use wire::{Due, Room};
 
 /// How many connections are accepted per round.
 const MOST_ACCEPTS: usize = 64;

@@ -7,7 +7,7 @@ use Rattle.boxes.specs.State.{State}
 use Rattle.sqltables.specs.Tables.{tables_of, placed}
 use Rattle.sqltables.specs.Questions.{HasLimit}
 use Rattle.sqlquestions.specs.Following.{IsFirstBehind}
-use Rattle.rolls.specs.Next.{IsNext, IsKey, IsBox, IsFileIn, IsLimit}
+use Rattle.boxes.specs.Next.{IsNext, IsKey, IsBox, IsFileIn, IsLimit}
 
 next_text : (Stands Known : List ℕ → Type 0) → ((text : List ℕ) → Stands text → Known text) → ((text : List ℕ) → Known text → Stands text) → (after : List ℕ) (found : Option (List ℕ))
     → IsFirstBehind Stands after found → IsNext bytes_cmp Known after found

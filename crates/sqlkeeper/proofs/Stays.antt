@@ -7,9 +7,9 @@ use Rattle.sqlite.specs.State as sql
 use Rattle.sigtext.specs.Counts.{CountsErrors}
 use Rattle.boxes.specs.State.{State}
 use Rattle.boxes.specs.Sound.{IsSound}
-use Rattle.keeper.specs.declared.keep.KeepFault.{KeepFault}
-use Rattle.keeper.specs.declared.keep.KeepFault.TheVariants.{Full, Store}
-use Rattle.keeper.specs.Keeping.{Answers, Stays, LeavesAlone, LeavesEither}
+use Rattle.boxes.specs.declared.keep.KeepFault.{KeepFault}
+use Rattle.boxes.specs.declared.keep.KeepFault.TheVariants.{Full, Store}
+use Rattle.boxes.specs.Keeping.{Answers, Stays, LeavesAlone, LeavesEither}
 use Rattle.sqltables.specs.Schema.{v2}
 use Rattle.sqltables.specs.Means.{Means, LeavesOnly, AddsOnly, LeavesLast}
 use Rattle.sqlkeeper.specs.Asking.{AnswersOf, LeavesOffice}

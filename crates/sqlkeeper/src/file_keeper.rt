@@ -8,7 +8,7 @@ ghost use Rattle.boxes.specs.Changes.{MayChange, IsPastFull, TakesStaged};
 ghost use Rattle.sigtext.specs.Counts.{CountsErrors};
 ghost use Rattle.sqlite.specs.State.{HasCleanDisk};
 ghost use Rattle.sqlite.specs.Held.{state};
-ghost use Rattle.keeper.specs.Keeping.{LeavesAlone};
+ghost use Rattle.boxes.specs.Keeping.{LeavesAlone};
 ghost use Rattle.sqltables.specs.Means.{IsBare, AddsOnly};
 ghost use Rattle.sqltables.specs.Schema.{v2, s0};
 ghost use Rattle.sqltables.specs.Tables.{NoneStaged};
@@ -32,8 +32,10 @@ use crate::questions::{
     Settings, TotalsOf,
 };
 use crate::upgrading::upgrade_file;
-use boxes::{BoxRow, Change, FileRow, KeyRow, OfficeRow, ReceiptRow, Totals, law_of_changes};
-use keeper::{KeepFault, Keeper};
+use boxes::{
+    BoxRow, Change, FileRow, KeepFault, Keeper, KeyRow, OfficeRow, ReceiptRow, Totals,
+    law_of_changes,
+};
 use shelf::has_room;
 use sqlaudit::opening::{Finding, Found, find, find_either};
 use sqlite::{Alter, Connection, ErrorCode};
@@ -410,8 +412,8 @@ impl<S: Alter> SqlKeeper<S> {
 }
 
 impl<S: Alter> SqlKeeper<S> {
-    ghost use Rattle.keeper.specs.Bound.{StaysBy};
-    ghost use Rattle.keeper.specs.Keeping.{Answers};
+    ghost use Rattle.boxes.specs.Bound.{StaysBy};
+    ghost use Rattle.boxes.specs.Keeping.{Answers};
 
     // The file's answer to this question. An error is counted.
     fn answer<Q: Question<S>>(&mut self, question: &Q) -> Result<Q::Answer, KeepFault>

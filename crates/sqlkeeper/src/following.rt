@@ -1,7 +1,7 @@
 //! The questions of a walk through the office file: what comes next.
 
 ghost use Rattle.sigtext.specs.Bytes.{bytes_cmp};
-ghost use Rattle.rolls.specs.Next.{text_in, IsNext, IsKey, IsBox, IsFileIn, IsLimit};
+ghost use Rattle.boxes.specs.Next.{text_in, IsNext, IsKey, IsBox, IsFileIn, IsLimit};
 
 use crate::asking::Question;
 use sqlite::{Alter, Error, Transaction};

@@ -1,6 +1,5 @@
 //! A day of an office, over any keeper.
-use boxes::{Change, Command, Role};
-use keeper::{KeepFault, Keeper};
+use boxes::{Change, Command, KeepFault, Keeper, Role};
 use trials::errands::{ROOMY, begin, set_file};
 
 // Adds a key, a box, a file that is then replaced, and two more files.

@@ -1,7 +1,6 @@
 //! One office in memory, change by change. `ci/test_memory.py` refuses each allocation in turn. A call that is refused
 //! memory is retried once. Its error must leave the office unchanged.
-use boxes::{BoxRow, Change, Command, Mode, NameRule, NewFile, OfficeRow, Role};
-use keeper::{KeepFault, Keeper};
+use boxes::{BoxRow, Change, Command, KeepFault, Keeper, Mode, NameRule, NewFile, OfficeRow, Role};
 use shelf::Shelf;
 use sigv4::Allowance;
 use std::alloc::{AllocError, Global};

@@ -1,6 +1,6 @@
 //! Lists over the keeper in memory, which refuses a call.
-use keeper::KeepFault;
-use manifests::{ListFault, compare, manifest};
+use boxes::KeepFault;
+use lists::{ListFault, compare, manifest};
 use office::Office;
 use std::test::Fail;
 use trials::boxed::begun;

@@ -3,7 +3,6 @@
 use boxes::Mode;
 use links::LinkKey;
 use office::Office;
-use seats::SessionEnd;
 use shelf::Shelf;
 use std::alloc::Global;
 use std::test::Fail;
@@ -14,6 +13,7 @@ use trials::published::{DATE, ID, TRY_AGAIN};
 use trials::staged::{SIZE, body, breaks_off, is_unstaged, left_by, source, upload_of};
 use trials::telling::{holds, told};
 use trials::watched::Watched;
+use wire::SessionEnd;
 
 // The receipt number 2, for 200000 bytes.
 const SECOND: &[u8] =

@@ -1,15 +1,14 @@
 //! An office with a box, and requests for it by presigned URLs that are signed here.
 use crate::fakes::{Sink, Source};
 use crate::published::{DATE, ID, SECRET};
-use boxes::{BoxRow, Change, Command, Mode, NameRule, OfficeRow};
-use keeper::{KeepFault, Keeper};
+use boxes::{BoxRow, Change, Command, KeepFault, Keeper, Mode, NameRule, OfficeRow};
 use links::{LinkKey, LinkOrder, OrderParam, write_link};
 use office::{Counted, FixedClock, Office};
-use seats::SessionEnd;
 use shelf::Shelf;
 use sigv4::{Allowance, Moment};
 use std::alloc::Global;
 use std::test::Fail;
+use wire::SessionEnd;
 
 /// The clerk's key.
 pub const CLERK: LinkKey<'static> = LinkKey {

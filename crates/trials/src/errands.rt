@@ -4,13 +4,12 @@ use crate::owed::{DONE, FIRST_ABC, FOUND_ABC, SECOND_ABD, SECOND_X};
 use crate::published::{DATE, ID, TRY_AGAIN};
 use crate::telling::{holds, told};
 use crate::watched::Watched;
-use boxes::{BoxRow, Change, Command, Mode, NameRule, NewFile, Role};
-use keeper::{KeepFault, Keeper};
+use boxes::{BoxRow, Change, Command, KeepFault, Keeper, Mode, NameRule, NewFile, Role};
 use office::Office;
-use seats::SessionEnd;
 use sigv4::Sha;
 use std::alloc::Global;
 use std::test::Fail;
+use wire::SessionEnd;
 
 /// A box that allows replacing files and is always open, with a quota and a limit of files.
 pub const ROOMY: BoxRow = BoxRow {

@@ -5,12 +5,12 @@ use crate::owed::NO_WHOLE_BODY;
 use crate::published::DATE;
 use crate::telling::{holds, told};
 use crate::watched::Watched;
-use keeper::Keeper;
+use boxes::Keeper;
 use office::{Counted, FixedClock, Office};
-use seats::SessionEnd;
 use sigv4::Moment;
 use std::alloc::Global;
 use std::test::Fail;
+use wire::SessionEnd;
 
 /// The size of an upload that is staged in several pieces.
 pub const SIZE: usize = 200_000;

@@ -1,7 +1,6 @@
 //! All answers of a keeper, as one text.
 use crate::published::ID;
-use boxes::{BoxRow, FileRow, KeyRow, Mode, NameRule, ReceiptRow, Role};
-use keeper::Keeper;
+use boxes::{BoxRow, FileRow, Keeper, KeyRow, Mode, NameRule, ReceiptRow, Role};
 use std::alloc::Global;
 use std::test::Fail;
 

@@ -2,8 +2,7 @@
 ghost use Rattle.std.specs.Prelude.{◌≡◌, IfErr};
 ghost use Rattle.sigtext.specs.Counts.{CountsErrors};
 
-use boxes::{BoxRow, Change, FileRow, KeyRow, OfficeRow, ReceiptRow, Totals};
-use keeper::{KeepFault, Keeper};
+use boxes::{BoxRow, Change, FileRow, KeepFault, Keeper, KeyRow, OfficeRow, ReceiptRow, Totals};
 
 /// Passes each call on, except the one that it refuses. Its contract claims no state.
 #[derive(Drop)]

@@ -15,3 +15,9 @@ pub mod BrokenOff
 pub mod GivenFirst
 pub mod ReadAhead
 pub mod PiecesGiven
+pub mod Ahead
+pub mod Begins
+pub mod Changing
+pub mod Ends
+pub mod Standings
+pub mod Ties

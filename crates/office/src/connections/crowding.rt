@@ -4,10 +4,9 @@ ghost use Rattle.office.specs.Crowds.{is_fault_end};
 
 use crate::clocks::Clock;
 use crate::office::Office;
-use keeper::Keeper;
-use seats::{Crowd, Seat, SessionEnd};
+use boxes::Keeper;
 use std::io::{Read, Write};
-use wire::Room;
+use wire::{Crowd, Room, Seat, SessionEnd};
 
 // What a turn returns besides the slot.
 #[derive(Drop)]
@@ -29,7 +28,7 @@ fn has_failed(end: Option<SessionEnd>) -> bool
 impl<K: Keeper> Office<K> {
     ghost use Rattle.std.specs.Prelude.{◌≤◌, ◌+◌, ◌++◌, ◌<◌, ℕ, List, length, slice_set, Option, None};
     ghost use Rattle.boxes.specs.State.{State};
-    ghost use Rattle.seats.specs.Crowds.{slot_at};
+    ghost use Rattle.wire.specs.Crowds.{slot_at};
     ghost use Rattle.office.specs.Crowds.{ServesCrowd, TurnsSlot};
     ghost use Rattle.office.specs.Premise.{IsLeft, StaysUnstaged, WasKept};
 

@@ -7,7 +7,7 @@ ghost use Rattle.wire.specs.Whole.{LacksBody, TakesBody};
 ghost use Rattle.wire.specs.declared.feed.Place.TheVariants as stands;
 
 use crate::office::Office;
-use keeper::{KeepFault, Keeper};
+use boxes::{KeepFault, Keeper};
 use sigv4::Sha;
 use std::io::Read;
 use wire::{Ending, Feed, Piece, skip_body};
@@ -53,8 +53,8 @@ impl<K: Keeper> Office<K> {
     ghost use Rattle.std.specs.Io.KnownBytes.{Consumes};
     ghost use Rattle.sigtext.specs.Counts.{Rose};
     ghost use Rattle.boxes.specs.State.{State};
-    ghost use Rattle.keeper.specs.Bound.{StaysBy};
-    ghost use Rattle.keeper.specs.Keeping.{KeepsStaged};
+    ghost use Rattle.boxes.specs.Bound.{StaysBy};
+    ghost use Rattle.boxes.specs.Keeping.{KeepsStaged};
     ghost use Rattle.sigtext.specs.Bytes.{AreBytes};
     ghost use Rattle.sigv4.specs.Hashers.{ShaHolds};
     ghost use Rattle.wire.specs.Feeds.{SameReader, left, place_of, reader_of};

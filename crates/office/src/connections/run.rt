@@ -1,7 +1,7 @@
 //! A list of connections.
 use crate::clocks::Clock;
 use crate::office::Office;
-use keeper::Keeper;
+use boxes::Keeper;
 use std::io::{Read, Write};
 use wire::Counted;
 

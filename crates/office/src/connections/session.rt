@@ -1,10 +1,9 @@
 //! One connection: its messages are read and answered in order.
 use crate::clocks::Clock;
 use crate::office::Office;
-use keeper::Keeper;
-use seats::SessionEnd;
+use boxes::Keeper;
 use std::io::{Read, Write};
-use wire::{Counted, Feed};
+use wire::{Counted, Feed, SessionEnd};
 
 /// The greatest number of messages on one connection.
 const MOST_MESSAGES: usize = 1000;

@@ -11,13 +11,12 @@ use crate::office::Office;
 use crate::requests::announced::Announced;
 use crate::requests::answering::asks_head;
 use crate::requests::foreseeing::{Body, Prospect, is_given_up, is_upload};
-use keeper::Keeper;
-use seats::SessionEnd;
+use boxes::Keeper;
 use sigtext::{Field, Refusal};
 use std::io::{Read, Write};
 use wire::{
-    Answer, Came, Counted, Feed, MOST_FIELDS, MOST_HEAD, NO_FIELD, Opening, WireFault, put_answer,
-    read_opening,
+    Answer, Came, Counted, Feed, MOST_FIELDS, MOST_HEAD, NO_FIELD, Opening, SessionEnd, WireFault,
+    put_answer, read_opening,
 };
 
 // Writes the answer of a refusal that closes the connection. Returns how the session ends.

@@ -2,12 +2,11 @@
 
 use crate::clocks::Clock;
 use crate::office::Office;
-use keeper::Keeper;
-use seats::{Seat, SessionEnd};
+use boxes::Keeper;
 use std::alloc::Global;
 use std::io::{Read, Write};
 use std::mem;
-use wire::{Counted, Feed, Room, Standing};
+use wire::{Counted, Feed, Room, Seat, SessionEnd, Standing};
 
 /// The greatest number of messages on one connection.
 const MOST_MESSAGES: u64 = 1000;

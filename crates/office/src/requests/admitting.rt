@@ -1,7 +1,6 @@
 //! Which links are admitted, first by the key that signed them, then by the moment.
 use crate::office::Office;
-use boxes::Role;
-use keeper::{KeepFault, Keeper};
+use boxes::{KeepFault, Keeper, Role};
 use links::{LinkParts, check_signature, check_window};
 use sigtext::Refusal;
 use sigv4::{Allowance, Moment};
@@ -11,8 +10,8 @@ impl<K: Keeper> Office<K> {
     ghost use Rattle.sigtext.specs.Request.{Request};
     ghost use Rattle.sigtext.specs.Rules.{IsFirstToFail};
     ghost use Rattle.boxes.specs.State.{Key, State};
-    ghost use Rattle.keeper.specs.Bound.{StaysBy};
-    ghost use Rattle.keeper.specs.Keeping.{KeepsStaged};
+    ghost use Rattle.boxes.specs.Bound.{StaysBy};
+    ghost use Rattle.boxes.specs.Keeping.{KeepsStaged};
     ghost use Rattle.links.specs.LinkReadings.{IsLinkOf};
     ghost use Rattle.links.specs.Moments.{HasBegun, moment_with};
     ghost use Rattle.links.specs.WellFormed.{LinkValues};

@@ -7,7 +7,7 @@ ghost use Rattle.std.specs.Prelude.{codes};
 use super::announced::{Announced, announce};
 use super::foreseeing::{Body, Errand, Prospect, is_putting, is_upload};
 use crate::office::Office;
-use keeper::{KeepFault, Keeper};
+use boxes::{KeepFault, Keeper};
 use links::Method;
 use sigtext::Refusal;
 use sigv4::{Moment, Sha};
@@ -29,7 +29,7 @@ impl<K: Keeper> Office<K> {
     ghost use Rattle.sigtext.specs.Counts.{Rose};
     ghost use Rattle.sigtext.specs.Request.{Request};
     ghost use Rattle.boxes.specs.State.{State};
-    ghost use Rattle.keeper.specs.Keeping.{KeepsStaged};
+    ghost use Rattle.boxes.specs.Keeping.{KeepsStaged};
     ghost use Rattle.wire.specs.Messages.{request_in};
     ghost use Rattle.office.specs.Admitted.{IsAdmitted};
     ghost use Rattle.office.specs.Alike.{AreAlike};

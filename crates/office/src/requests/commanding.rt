@@ -4,9 +4,8 @@ ghost use Rattle.std.specs.Prelude.{◌≡◌};
 
 use super::places::decoded_path;
 use crate::office::Office;
-use boxes::{Change, Command, DeskView, KeyRow, desk as decide, law_of_changes};
+use boxes::{Change, Command, DeskView, KeepFault, Keeper, KeyRow, desk as decide, law_of_changes};
 use desk::read_command;
-use keeper::{KeepFault, Keeper};
 use links::LinkParts;
 use sigtext::Refusal;
 use thiserror::Error;
@@ -55,8 +54,8 @@ impl<K: Keeper> Office<K> {
     ghost use Rattle.boxes.specs.State.{State};
     ghost use Rattle.boxes.specs.Steps.{IsPossible};
     ghost use Rattle.boxes.specs.Views.{IsDeskViewOf};
-    ghost use Rattle.keeper.specs.Bound.{StaysBy};
-    ghost use Rattle.keeper.specs.Keeping.{KeepsStaged};
+    ghost use Rattle.boxes.specs.Bound.{StaysBy};
+    ghost use Rattle.boxes.specs.Keeping.{KeepsStaged};
     ghost use Rattle.links.specs.LinkReadings.{IsLinkOf};
     ghost use Rattle.links.specs.WellFormed.{LinkValues};
     ghost use Rattle.desk.specs.Lines.{HasListedRule};

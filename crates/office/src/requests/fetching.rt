@@ -1,8 +1,7 @@
 //! Fetches.
 use super::places::{FilePlace, decoded_path, read_place};
 use crate::office::Office;
-use boxes::{FetchView, fetch};
-use keeper::{KeepFault, Keeper};
+use boxes::{FetchView, KeepFault, Keeper, fetch};
 use links::LinkParts;
 use sigtext::Refusal;
 use wire::Reply;
@@ -12,8 +11,8 @@ impl<K: Keeper> Office<K> {
     ghost use Rattle.sigtext.specs.Request.{Request};
     ghost use Rattle.boxes.specs.State.{State};
     ghost use Rattle.boxes.specs.Views.{IsFetchViewOf};
-    ghost use Rattle.keeper.specs.Bound.{StaysBy};
-    ghost use Rattle.keeper.specs.Keeping.{KeepsStaged};
+    ghost use Rattle.boxes.specs.Bound.{StaysBy};
+    ghost use Rattle.boxes.specs.Keeping.{KeepsStaged};
     ghost use Rattle.links.specs.LinkReadings.{IsLinkOf};
     ghost use Rattle.links.specs.WellFormed.{LinkValues};
     ghost use Rattle.office.specs.Admitted.{ReachesBoxes};

@@ -8,8 +8,7 @@ use super::forms::check_form;
 use super::places::{decoded_path, read_place};
 use super::reading::read_link;
 use crate::office::Office;
-use boxes::{BoxRow, Role, place};
-use keeper::Keeper;
+use boxes::{BoxRow, Keeper, Role, place};
 use links::{LinkParts, Method};
 use sigtext::Refusal;
 
@@ -75,7 +74,7 @@ impl<K: Keeper> Office<K> {
     ghost use Rattle.std.specs.Prelude.{◌≡◌, ◌≢◌, ℕ, List, length, Err};
     ghost use Rattle.sigtext.specs.Request.{Request};
     ghost use Rattle.boxes.specs.State.{Key, State};
-    ghost use Rattle.keeper.specs.Keeping.{KeepsStaged};
+    ghost use Rattle.boxes.specs.Keeping.{KeepsStaged};
     ghost use Rattle.links.specs.LinkReadings.{IsLinkOf};
     ghost use Rattle.links.specs.Methods.{method_text};
     ghost use Rattle.links.specs.WellFormed.{LinkValues};

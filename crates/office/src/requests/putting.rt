@@ -11,10 +11,9 @@ use super::foreseeing::Body;
 use super::places::{FilePlace, read_place};
 use crate::office::Office;
 use boxes::{
-    BoxRow, Change, NewBytes, NewFile, OfficeRow, ReceiptRow, Totals, UploadView, Uploading,
-    law_of_changes, upload,
+    BoxRow, Change, KeepFault, Keeper, NewBytes, NewFile, OfficeRow, ReceiptRow, Totals,
+    UploadView, Uploading, law_of_changes, upload,
 };
-use keeper::{KeepFault, Keeper};
 use links::LinkParts;
 use sigtext::Refusal;
 use sigv4::Moment;
@@ -61,8 +60,8 @@ impl<K: Keeper> Office<K> {
     ghost use Rattle.boxes.specs.Rules.{Stands, Upload};
     ghost use Rattle.boxes.specs.State.{State};
     ghost use Rattle.boxes.specs.Views.{AreTotals, IsReceiptAt, IsUploadViewOf};
-    ghost use Rattle.keeper.specs.Bound.{StaysBy};
-    ghost use Rattle.keeper.specs.Keeping.{KeepsStaged, LeavesEither};
+    ghost use Rattle.boxes.specs.Bound.{StaysBy};
+    ghost use Rattle.boxes.specs.Keeping.{KeepsStaged, LeavesEither};
     ghost use Rattle.links.specs.LinkReadings.{IsLinkOf};
     ghost use Rattle.links.specs.WellFormed.{LinkValues};
     ghost use Rattle.office.specs.Admitted.{ReachesBoxes};

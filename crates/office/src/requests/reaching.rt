@@ -3,8 +3,7 @@ ghost use Rattle.std.specs.Prelude.{◌≡◌, ◌↔◌, IsTrue};
 
 use super::places::{decoded_path, read_place};
 use crate::office::Office;
-use boxes::Role;
-use keeper::Keeper;
+use boxes::{Keeper, Role};
 use links::{LinkParts, Method};
 use sigtext::Refusal;
 
@@ -19,7 +18,7 @@ impl<K: Keeper> Office<K> {
     ghost use Rattle.sigtext.specs.Request.{Request};
     ghost use Rattle.sigtext.specs.Rules.{IsFirstToFail};
     ghost use Rattle.boxes.specs.State.{Key, State};
-    ghost use Rattle.keeper.specs.Keeping.{KeepsStaged};
+    ghost use Rattle.boxes.specs.Keeping.{KeepsStaged};
     ghost use Rattle.links.specs.LinkReadings.{IsLinkOf};
     ghost use Rattle.links.specs.Methods.{method_text};
     ghost use Rattle.links.specs.WellFormed.{LinkValues};

@@ -5,8 +5,7 @@ ghost use Rattle.sigtext.specs.Counts.{CountsErrors};
 
 use super::SqlKeeper;
 use crate::following::{BoxAfter, FileAfter, KeyAfter, LimitAfter};
-use keeper::KeepFault;
-use rolls::Rolls;
+use boxes::{KeepFault, Rolls};
 use sqlite::Alter;
 use std::str;
 

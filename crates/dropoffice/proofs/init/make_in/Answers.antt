@@ -8,7 +8,7 @@ use Rattle.sqltables.specs.Kept.{KeepsState, MayLeave}
 use Rattle.sqltables.specs.Schema.{s0}
 use Rattle.tasks.specs.declared.task.Secret.{Secret}
 use Rattle.tasks.specs.declared.task.Secret.TheVariants as secret
-use Rattle.taskwork.specs.Performing.{IsSecretOf, MayBeMade}
+use Rattle.dropoffice.specs.Performing.{IsSecretOf, MayBeMade}
 use Rattle.dropoffice.proofs.Ended.{leaves_held}
 use Rattle.dropoffice.proofs.Ends.{bare_before, made_over}
 use Rattle.dropoffice.proofs.init.make_in.Goals as goal

@@ -1,7 +1,7 @@
 use Rattle.std.proofs.Common.{inl, inr}
 use Rattle.sqlite.specs.Files.{file_state}
 use Rattle.sqlkeeper.specs.Versions.{IsOfficeFile}
-use Rattle.taskwork.specs.Holding.{HoldsEither}
+use Rattle.dropoffice.specs.Holding.{HoldsEither}
 use Rattle.dropoffice.proofs.Ended.{held_either, shows_held, was_ours}
 use Rattle.dropoffice.proofs.Ends.{migrated_over}
 use Rattle.dropoffice.proofs.migrating.migrate_in.Goals as goal

@@ -1,7 +1,7 @@
 use Rattle.std.proofs.Common.{inl, inr}
 use Rattle.sqlite.specs.Files.{file_state}
 use Rattle.sqltables.specs.Kept.{KeepsState}
-use Rattle.taskwork.specs.Holding.{HoldsState}
+use Rattle.dropoffice.specs.Holding.{HoldsState}
 use Rattle.dropoffice.proofs.Ended.{held, shows_held, was_ours}
 use Rattle.dropoffice.proofs.Ends.{ran_over}
 use Rattle.dropoffice.proofs.opening.work_in.Goals as goal

@@ -1,6 +1,6 @@
 use Rattle.std.proofs.Common.{inr}
 use Rattle.sqlite.specs.WalFiles.{image_at}
-use Rattle.taskwork.specs.Holding.{HoldsState, ShowsHeld}
+use Rattle.dropoffice.specs.Holding.{HoldsState, ShowsHeld}
 use Rattle.dropoffice.proofs.Ended.{spared_more}
 use Rattle.dropoffice.proofs.opening.work_over.Goals as goal
 

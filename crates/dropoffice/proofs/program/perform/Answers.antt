@@ -1,6 +1,6 @@
 use Rattle.std.proofs.Common.{inl, inr, refl}
 use Rattle.clap.specs.Words.{kind_of}
-use Rattle.taskwork.proofs.Less.{performs_less}
+use Rattle.dropoffice.proofs.Less.{performs_less}
 use Rattle.dropoffice.proofs.program.perform.Goals as goal
 
 pub returns-in-Ok-clause-office : goal.returns-in-Ok-clause-office

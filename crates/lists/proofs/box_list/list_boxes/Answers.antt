@@ -1,6 +1,6 @@
 use Rattle.std.proofs.Common.{subst, arith}
 use Rattle.sigtext.specs.Counts.{CountsErrors}
-use Rattle.manifests.specs.Lists.{by_writer}
+use Rattle.lists.specs.Lists.{by_writer}
 use Rattle.std.specs.FinMap.{entries}
 use Rattle.std.proofs.lemmas.Result.{err_from_is_err_and}
 use Rattle.lists.specs.Boxes.{boxes_head, IsBoxLine}

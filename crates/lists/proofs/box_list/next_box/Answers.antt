@@ -1,5 +1,5 @@
 use Rattle.std.proofs.Common.{arith}
-use Rattle.manifests.specs.Asking.{stays_err, stays_joined, stays_ok}
+use Rattle.lists.specs.Asking.{stays_err, stays_joined, stays_ok}
 use Rattle.lists.proofs.box_list.next_box.Goals as goal
 
 pub returns-in-Ok-None-clause-row : goal.returns-in-Ok-None-clause-row

@@ -4,13 +4,13 @@ use Rattle.sigtext.specs.Bytes.{bytes_cmp}
 use Rattle.boxes.proofs.Lookups.{bytes_same, bytes_total}
 use Rattle.lists.proofs.ToldLines.{box_line_told, box_moments}
 use Rattle.wire.proofs.Written.{sends_same}
-use Rattle.manifests.specs.Asking.{stays_joined, stays_unasked}
-use Rattle.rolls.specs.Next.{IsBox, IsNext}
+use Rattle.lists.specs.Asking.{stays_joined, stays_unasked}
+use Rattle.boxes.specs.Next.{IsBox, IsNext}
 use Rattle.lists.specs.Boxes.{IsBoxLine}
 use Rattle.lists.proofs.NextFiles.{box_behind}
 use Rattle.lists.proofs.Walked.{walk_begins, walk_breaks, walk_ends, walk_moves, walk_stops, Walked}
-use Rattle.manifests.specs.Lists.{IsOfAnswering, IsOfManifest}
-use Rattle.manifests.specs.declared.list_fault.ListFault.TheVariants as fault
+use Rattle.lists.specs.Lists.{IsOfAnswering, IsOfManifest}
+use Rattle.lists.specs.declared.list_fault.ListFault.TheVariants as fault
 use Rattle.lists.proofs.Passed.{passed_count, passed_fault, passed_manifest, passed_other, passed_stays, passed_write}
 use Rattle.lists.proofs.box_list.send_boxes.Goals as goal
 

@@ -1,7 +1,7 @@
 use Rattle.std.proofs.Common.{◌≡◌, Ok}
 use Rattle.boxes.specs.State.{State}
-use Rattle.keeper.specs.Bound.{StaysBy}
-use Rattle.manifests.specs.Asking.{Meant}
+use Rattle.boxes.specs.Bound.{StaysBy}
+use Rattle.lists.specs.Asking.{Meant}
 use Rattle.lists.specs.Boxes.{IsBoxLine}
 use Rattle.lists.proofs.Walked.{Walked}
 use Rattle.lists.proofs.box_list.send_boxes.Given as goal

@@ -1,5 +1,5 @@
 use Rattle.std.proofs.Common.{arith}
-use Rattle.manifests.specs.Asking.{stays_err, stays_joined, stays_ok, stays_unasked}
+use Rattle.lists.specs.Asking.{stays_err, stays_joined, stays_ok, stays_unasked}
 use Rattle.lists.proofs.Passed.{passed_answering, passed_stays}
 use Rattle.lists.proofs.file_list.next_listed.Goals as goal
 

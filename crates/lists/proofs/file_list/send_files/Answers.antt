@@ -6,12 +6,12 @@ use Rattle.boxes.proofs.Lookups.{place_total}
 use Rattle.lists.specs.Places.{place_in}
 use Rattle.lists.proofs.ToldLines.{file_line_told, file_moment}
 use Rattle.wire.proofs.Written.{sends_same}
-use Rattle.manifests.specs.Asking.{stays_joined, stays_unasked}
+use Rattle.lists.specs.Asking.{stays_joined, stays_unasked}
 use Rattle.lists.specs.Files.{IsFileLine}
 use Rattle.lists.proofs.NextFiles.{place_behind}
 use Rattle.lists.proofs.Walked.{walk_begins, walk_breaks, walk_ends, walk_moves, walk_stops, Walked}
-use Rattle.manifests.specs.Lists.{IsOfAnswering, IsOfManifest}
-use Rattle.manifests.specs.declared.list_fault.ListFault.TheVariants as fault
+use Rattle.lists.specs.Lists.{IsOfAnswering, IsOfManifest}
+use Rattle.lists.specs.declared.list_fault.ListFault.TheVariants as fault
 use Rattle.lists.proofs.Passed.{passed_count, passed_fault, passed_manifest, passed_other, passed_stays, passed_write}
 use Rattle.lists.proofs.file_list.send_files.Goals as goal
 

@@ -1,6 +1,6 @@
 use Rattle.std.proofs.Common.{◌∙◌, map, ap, subst}
-use Rattle.manifests.specs.Asking.{stays_err, stays_joined, stays_ok, stays_unasked}
-use Rattle.manifests.proofs.ReceiptLines.{map_push}
+use Rattle.lists.specs.Asking.{stays_err, stays_joined, stays_ok, stays_unasked}
+use Rattle.lists.proofs.ReceiptLines.{map_push}
 use Rattle.lists.specs.Keys.{IsLast}
 use Rattle.lists.proofs.LimitedBoxes.{told_all, told_first, told_next}
 use Rattle.lists.proofs.key_list.boxes_of.Goals as goal

@@ -1,9 +1,9 @@
 use Rattle.std.proofs.Common.{Ok, map, List, ℕ}
 use Rattle.sigtext.specs.Bytes.{bytes_cmp}
 use Rattle.boxes.specs.State.{State}
-use Rattle.keeper.specs.Bound.{StaysBy}
-use Rattle.rolls.specs.Next.{IsLimit}
-use Rattle.manifests.specs.Asking.{Meant}
+use Rattle.boxes.specs.Bound.{StaysBy}
+use Rattle.boxes.specs.Next.{IsLimit}
+use Rattle.lists.specs.Asking.{Meant}
 use Rattle.lists.specs.Keys.{IsLast}
 use Rattle.lists.proofs.LimitedBoxes.{Told}
 use Rattle.lists.proofs.key_list.boxes_of.Given as goal

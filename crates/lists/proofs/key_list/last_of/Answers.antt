@@ -1,6 +1,6 @@
 use Rattle.std.proofs.Common.{◌∙◌, map, inr, ap, ◌++◌, ◌∷◌, [], sym, arith}
 use Rattle.std.proofs.lemmas.Grind.{common_steps}
-use Rattle.manifests.proofs.ReceiptLines.{map_push}
+use Rattle.lists.proofs.ReceiptLines.{map_push}
 use Rattle.lists.proofs.Texts.{last_cut}
 use Rattle.lists.proofs.key_list.last_of.Goals as goal
 

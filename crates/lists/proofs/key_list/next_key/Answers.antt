@@ -1,6 +1,6 @@
 use Rattle.std.proofs.Common.{map, subst, arith}
 use Rattle.lists.specs.Keys.{AreLimits}
-use Rattle.manifests.specs.Asking.{stays_err, stays_joined, stays_ok}
+use Rattle.lists.specs.Asking.{stays_err, stays_joined, stays_ok}
 use Rattle.lists.proofs.Passed.{passed_answering, passed_stays}
 use Rattle.lists.proofs.key_list.next_key.Goals as goal
 

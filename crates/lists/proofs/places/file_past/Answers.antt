@@ -1,7 +1,7 @@
 use Rattle.std.proofs.Common.{[], Some, None, subst, arith}
 use Rattle.sigtext.specs.Bytes.{bytes_cmp}
-use Rattle.rolls.specs.Next.{IsBox, IsFileIn, IsNext}
-use Rattle.manifests.specs.Asking.{stays_err, stays_joined, stays_ok, stays_unasked}
+use Rattle.boxes.specs.Next.{IsBox, IsFileIn, IsNext}
+use Rattle.lists.specs.Asking.{stays_err, stays_joined, stays_ok, stays_unasked}
 use Rattle.lists.proofs.NextFiles.{past_ends, past_found, past_moves}
 use Rattle.lists.proofs.places.file_past.Goals as goal
 

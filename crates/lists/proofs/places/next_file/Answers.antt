@@ -1,8 +1,8 @@
 use Rattle.std.proofs.Common.{Some, List, ℕ, option_map, sym, subst}
 use Rattle.std.proofs.lemmas.Result.{IfOk-weaker}
 use Rattle.boxes.specs.State.{place_cmp}
-use Rattle.rolls.specs.Next.{IsFile, IsNext}
-use Rattle.manifests.specs.Asking.{stays_err, stays_joined, stays_ok}
+use Rattle.boxes.specs.Next.{IsFile, IsNext}
+use Rattle.lists.specs.Asking.{stays_err, stays_joined, stays_ok}
 use Rattle.lists.specs.Places.{place_in}
 use Rattle.lists.proofs.NextFiles.{next_in_box, next_past}
 use Rattle.lists.proofs.places.next_file.Goals as goal

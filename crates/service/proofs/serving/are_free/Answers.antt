@@ -1,7 +1,7 @@
 use Rattle.std.proofs.Common.{◌≡◌, ◌<◌, ◌≤◌, ◌∙◌, ⊎_elim, None, Some, length, sym, arith}
 use Rattle.std.proofs.lemmas.Bool.{cases_lt}
 use Rattle.std.proofs.lemmas.List.{get_or_default, get_or_past}
-use Rattle.seats.specs.Crowds.{slot_at}
+use Rattle.wire.specs.Crowds.{slot_at}
 use Rattle.service.proofs.Below.{up_to}
 use Rattle.service.proofs.serving.are_free.Goals as goal
 

@@ -1,5 +1,5 @@
 use Rattle.std.proofs.Common.{◌≡◌, ◌<◌, ℕ, None}
-use Rattle.seats.specs.Crowds.{slot_at}
+use Rattle.wire.specs.Crowds.{slot_at}
 use Rattle.service.proofs.serving.are_free.Given as goal
 
 abbrev pub invariant-slots : goal.invariant-slots

@@ -1,5 +1,5 @@
 use Rattle.std.proofs.Common.{◌≡◌, ◌∙◌, None, drop, length, subst, sym, arith}
-use Rattle.seats.specs.Crowds.{slot_at}
+use Rattle.wire.specs.Crowds.{slot_at}
 use Rattle.service.proofs.Returned.{serves_so, take_first}
 use Rattle.service.proofs.serving.serve.Goals as goal
 

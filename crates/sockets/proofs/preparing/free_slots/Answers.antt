@@ -1,6 +1,6 @@
 use Rattle.std.proofs.Common.{[], ◌≡◌, ◌∷◌, None, ap, length, subst, sym, arith}
 use Rattle.std.proofs.lemmas.List.{length-append}
-use Rattle.seats.specs.Crowds.{slot_at}
+use Rattle.wire.specs.Crowds.{slot_at}
 use Rattle.sockets.proofs.Freed.{free_more}
 use Rattle.sockets.proofs.preparing.free_slots.Goals as goal
 

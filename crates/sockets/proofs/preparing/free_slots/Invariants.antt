@@ -1,5 +1,5 @@
 use Rattle.std.proofs.Common.{◌≡◌, ℕ, None, length}
-use Rattle.seats.specs.Crowds.{slot_at}
+use Rattle.wire.specs.Crowds.{slot_at}
 use Rattle.sockets.proofs.preparing.free_slots.Given as goal
 
 abbrev pub invariant-slots : goal.invariant-slots

@@ -1,7 +1,7 @@
 use Rattle.std.proofs.Common.{◌<◌, None, length, ◌∙◌, sym, ap, arith}
 use Rattle.std.specs.Prelude.{not}
 use Rattle.std.proofs.lemmas.List.{get_or_default}
-use Rattle.seats.proofs.Ends.{none_of}
+use Rattle.wire.proofs.Ends.{none_of}
 use Rattle.sockets.proofs.sockets.is_open_at.Goals as goal
 
 pub returns-in-Some : goal.returns-in-Some

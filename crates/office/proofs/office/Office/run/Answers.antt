@@ -1,6 +1,6 @@
 use borrow.Author.Rules.{scaled_Fits}
 use Rattle.std.proofs.Common.{◌≡◌, ◌+◌, ◌<◌, ◌∙◌, cond, inl, length, refl, sym, ap, arith}
-use Rattle.seats.specs.Ends.{is_fault}
+use Rattle.wire.specs.Ends.{is_fault}
 use Rattle.office.proofs.KeeperCalls.{unstaged_then}
 use Rattle.office.proofs.RunSoFar.{starts, goes_on, others_stay, finishes}
 use Rattle.office.proofs.office.Office.run.Goals as goal

@@ -1,9 +1,9 @@
 use Rattle.std.proofs.Common.{[], ◌≡◌, ◌+◌, ◌++◌, ◌∷◌, ◌∙◌, Bool, Option, cond, length, ap, inl, sym, subst, append_assoc, arith}
 use Rattle.std.proofs.lemmas.List.{append-nil, length-append, length_push}
-use Rattle.seats.specs.Crowds.{numbers_after, whose_turn}
-use Rattle.seats.specs.declared.crowding.Due.{Due}
-use Rattle.seats.proofs.Changing.{among_turned}
-use Rattle.seats.proofs.Ties.{none_is}
+use Rattle.wire.specs.Crowds.{numbers_after, whose_turn}
+use Rattle.wire.specs.declared.crowding.Due.{Due}
+use Rattle.wire.proofs.Changing.{among_turned}
+use Rattle.wire.proofs.Ties.{none_is}
 use Rattle.office.proofs.CrowdTurns.{CrowdSoFar, changes_more, crowd_ends, crowd_starts, turned_more}
 use Rattle.office.proofs.KeeperCalls.{unstaged_then}
 use Rattle.office.proofs.office.Office.serve_crowd.Goals as goal

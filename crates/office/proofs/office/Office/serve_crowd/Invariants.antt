@@ -1,8 +1,8 @@
 use Rattle.std.proofs.Common.{◌≡◌, ◌≤◌, ◌+◌, ◌++◌, ℕ, List, length}
 use Rattle.boxes.specs.State.{State}
 use Rattle.office.specs.Premise.{IsLeft, StaysUnstaged, WasKept}
-use Rattle.seats.specs.declared.seat.Seat.{Seat}
-use Rattle.seats.specs.Crowds.{AreAmong}
+use Rattle.wire.specs.declared.seat.Seat.{Seat}
+use Rattle.wire.specs.Crowds.{AreAmong}
 use Rattle.office.proofs.CrowdTurns.{CrowdSoFar}
 use Rattle.office.proofs.office.Office.serve_crowd.Given as goal
 

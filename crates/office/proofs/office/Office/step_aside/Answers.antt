@@ -2,7 +2,7 @@ use Rattle.office.specs.Stepping.{TellsStep}
 use Rattle.std.proofs.Common.{◌≡◌, ◌∙◌, ap, inr, sym, subst, arith}
 use Rattle.std.specs.Io.KnownBytes.{prepend_known}
 use Rattle.wire.specs.Feeds.{ahead_of, left, place_of, reader_of, stood_at}
-use Rattle.seats.proofs.Begins.{resumed_between}
+use Rattle.wire.proofs.Begins.{resumed_between}
 use Rattle.office.proofs.SeatTurns.{steps_by}
 use Rattle.office.proofs.office.Office.step_aside.Goals as goal
 

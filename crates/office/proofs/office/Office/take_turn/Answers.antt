@@ -1,8 +1,8 @@
 use Rattle.std.proofs.Common.{◌∙◌, ◌-◌, None, Some, suc, refl, sym, arith, inl}
-use Rattle.seats.specs.declared.session.SessionEnd.TheVariants.{Limit}
-use Rattle.seats.specs.Seats.{left_of}
+use Rattle.wire.specs.declared.session.SessionEnd.TheVariants.{Limit}
+use Rattle.wire.specs.Seats.{left_of}
 use Rattle.office.specs.Seats.{had_ended, went_on, ended}
-use Rattle.seats.proofs.Ends.{none_of, some_of}
+use Rattle.wire.proofs.Ends.{none_of, some_of}
 use Rattle.office.proofs.SeatTurns.{steps_of, turn_tells}
 use Rattle.wire.specs.declared.feed.Place.TheVariants as place
 use Rattle.office.proofs.SessionSteps.{none_ends, none_gives_up, not_fresh, serves_none}

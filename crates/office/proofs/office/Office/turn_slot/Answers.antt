@@ -1,7 +1,7 @@
 use Rattle.std.proofs.Common.{◌≡◌, ◌∙◌, None, rules, false, Some, Option, refl, sym, ap, subst, arith}
 use Rattle.std.specs.Prelude.{is_some, not}
 use Rattle.office.specs.Crowds.{TurnsSlot, nobody, fails_now, is_fault_end}
-use Rattle.seats.specs.declared.seat.Seat.{Seat}
+use Rattle.wire.specs.declared.seat.Seat.{Seat}
 use Rattle.office.proofs.CrowdTurns.{fails_open, fails_closed, taken_by}
 use Rattle.office.proofs.office.Office.turn_slot.Goals as goal
 use Rattle.office.proofs.office.Office.turn_slot.Goals.{then-was_open, else-was_open}

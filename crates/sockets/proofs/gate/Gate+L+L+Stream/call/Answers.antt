@@ -1,7 +1,7 @@
 use Rattle.std.proofs.Common.{◌++◌, ◌∙◌, map, refl, subst, sym, arith}
 use Rattle.std.proofs.lemmas.Bool.{both_ways}
 use Rattle.std.proofs.lemmas.List.{append-nil}
-use Rattle.seats.specs.Crowds.{those_of}
+use Rattle.wire.specs.Crowds.{those_of}
 use Rattle.sockets.specs.Listening.{accepted}
 use Rattle.sockets.proofs.Moved.{accepts_one, misses_one, none_is, passes_none, passes_still, refuses_one}
 use Rattle.sockets.proofs.gate.Gate+L+L+Stream.call.Goals as goal

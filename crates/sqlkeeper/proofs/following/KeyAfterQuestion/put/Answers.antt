@@ -1,5 +1,5 @@
 use Rattle.std.proofs.lemmas.Result.{IfOk-weaker}
-use Rattle.rolls.specs.Next.{text_in}
+use Rattle.boxes.specs.Next.{text_in}
 use Rattle.sqltables.specs.Schema.{v2, second_version}
 use Rattle.sqltables.specs.Tables.{tables_of}
 use Rattle.sqlkeeper.proofs.NextTexts.{next_key}

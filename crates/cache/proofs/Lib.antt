@@ -1,4 +1,0 @@
-pub mod Entries
-pub mod Followed
-pub mod Answered
-pub mod Passed

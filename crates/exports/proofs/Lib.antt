@@ -1,7 +1,0 @@
-pub mod Parts
-pub mod Components
-pub mod BoxFiles
-pub mod SentFiles
-pub mod Walks
-pub mod Paths
-pub mod OneName

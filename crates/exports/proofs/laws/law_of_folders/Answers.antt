@@ -1,5 +1,0 @@
-use Rattle.exports.proofs.Paths.{own_folder}
-use Rattle.exports.proofs.laws.law_of_folders.Goals as goal
-
-pub returns : goal.returns
-returns c = λ box text named files sums begins ends is. own_folder box named begins ends files sums text is

@@ -1,5 +1,0 @@
-use Rattle.std.proofs.Common.{arith}
-use Rattle.exports.proofs.names.dots.Goals as goal
-
-pub dots-preserved : goal.dots-preserved
-dots-preserved c = grind arith

@@ -1,5 +1,0 @@
-use Rattle.exports.specs.Names.{AreDots}
-use Rattle.exports.proofs.names.dots.Given as goal
-
-abbrev pub invariant-dots : goal.invariant-dots
-invariant-dots l = AreDots l.text l.index

@@ -1,7 +1,0 @@
-pub mod Entries
-pub mod Portions
-pub mod ReceiptLines
-pub mod CsvLines
-pub mod AnsweredLists
-pub mod RecordFields
-pub mod Wishes

@@ -1,5 +1,0 @@
-use Rattle.std.proofs.Common.{arith}
-use Rattle.manifests.proofs.lines.line_of.Goals as goal
-
-pub returns-clause-line : goal.returns-clause-line
-returns-clause-line c = grind arith

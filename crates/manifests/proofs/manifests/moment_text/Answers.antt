@@ -1,5 +1,0 @@
-use Rattle.std.proofs.Common.{arith}
-use Rattle.manifests.proofs.manifests.moment_text.Goals as goal
-
-pub returns-in-Some : goal.returns-in-Some
-returns-in-Some c = grind arith

@@ -1,6 +1,0 @@
-pub mod Ahead
-pub mod Begins
-pub mod Changing
-pub mod Ends
-pub mod Standings
-pub mod Ties

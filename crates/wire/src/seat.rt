@@ -1,0 +1,150 @@
+//! A connection among others. Its feed is set aside between its turns.
+ghost use Rattle.std.specs.Prelude.{◌≡◌, ◌≤◌, [], IsTrue, None};
+ghost use Rattle.wire.specs.Feeds.{stood_at};
+ghost use Rattle.wire.specs.declared.feed.Place.TheVariants as stands;
+ghost use Rattle.wire.specs.Begins.{may_begin};
+
+use crate::session::SessionEnd;
+use crate::{Counted, Gathered, Gathering, Outbox, Room, Sending, Standing};
+use std::alloc::{AllocError, Global};
+use std::io;
+use std::io::{Read, Write};
+
+/// A connection among others, between two of its turns.
+#[derive(Drop)]
+pub struct Seat<R, W> {
+    /// Its reader.
+    pub reader: Counted<R>,
+    /// Its writer.
+    pub writer: Counted<W>,
+    /// Its feed, set aside.
+    pub standing: Standing,
+    /// The number of its messages that were served, at most 1000.
+    pub served: u64,
+    /// How it ended, if it did.
+    pub end: Option<SessionEnd>,
+    ghost few: { served ≤ 1000 },
+    ghost begins: { end ≡ None → IsTrue (may_begin (stood_at standing)) },
+    ghost fresh: { end ≡ None → stood_at standing ≡ stands.Fresh → served ≡ 0 },
+}
+
+impl<R, W> Seat<R, W> {
+    ghost use Rattle.wire.specs.Feeds.{ahead_of};
+    ghost use Rattle.wire.specs.Seats.{IsNew};
+
+    /// A connection from which nothing was read. It takes no memory.
+    pub fn new(alloc: Global, reader: R, writer: W) -> Seat<R, W>
+        ensures new { IsNew result }
+        ensures place { stood_at result.standing ≡ stands.Fresh }
+        ensures ahead { ahead_of result.standing ≡ [] }
+        ensures reader { result.reader.inner ≡ reader }
+        ensures writer { result.writer.inner ≡ writer }
+    {
+        Seat {
+            reader: Counted::new(reader),
+            writer: Counted::new(writer),
+            standing: Standing::new(alloc),
+            served: 0,
+            end: None,
+        }
+    }
+
+    /// How the connection ended, if it did.
+    pub fn end(&self) -> Option<SessionEnd>
+        ensures { result ≡ self.now.end }
+    {
+        self.end
+    }
+
+    /// The number of its messages that were served.
+    pub fn served(&self) -> u64
+        ensures { result ≡ self.now.served }
+    {
+        self.served
+    }
+
+    /// The bytes that the feed read and did not take, while they wait in a buffer of its own.
+    pub fn ahead(&self) -> &[u8]
+        ensures { result.now ≡ ahead_of self.now.standing }
+    {
+        self.standing.ahead()
+    }
+}
+
+impl<S: Read, W> Seat<Gathered<S>, W> {
+    ghost use Rattle.std.specs.Prelude.{◌+◌, ◌++◌, length, IsOk, IsSome, OnOk};
+    ghost use Rattle.wire.specs.Gathering.{Gathers as ReadsAhead, HasFailed, HasRoomFor, KeepsFault, ahead_in};
+    ghost use Rattle.wire.specs.Feeds.{ahead_of};
+    ghost use Rattle.wire.specs.Seats.{Gathers};
+
+    /// Reads ahead once, through the buffer, without waiting. The error means that memory was refused;
+    /// nothing was read then.
+    pub fn gather(&mut self, buf: &mut [u8]) -> Result<Gathering, AllocError>
+        ensures gathers { Gathers ⟦<Gathered<S> as Read>⟧.remaining self.old self.new }
+        ensures standing { self.new.standing ≡ self.old.standing }
+        ensures told { ReadsAhead S.remaining self.old.reader.inner self.new.reader.inner result }
+        ensures most { length (ahead_in self.new.reader.inner)
+            ≤ length (ahead_in self.old.reader.inner) + length buf.old }
+        ensures room { HasRoomFor (length buf.old) self.old.reader.inner → IsOk result }
+    {
+        self.reader.inner.gather(buf)
+    }
+
+    /// Takes memory to read n more bytes ahead. The error means that memory was refused.
+    pub fn make_room(&mut self, n: usize) -> Result<(), AllocError>
+        ensures gathers { Gathers ⟦<Gathered<S> as Read>⟧.remaining self.old self.new }
+        ensures standing { self.new.standing ≡ self.old.standing }
+        ensures ahead { ahead_in self.new.reader.inner ≡ ahead_in self.old.reader.inner }
+        ensures room { OnOk result (HasRoomFor n self.new.reader.inner) }
+        ensures fault { KeepsFault self.old.reader.inner self.new.reader.inner }
+    {
+        self.reader.inner.make_room(n)
+    }
+
+    /// Makes each read fail with this error, once the bytes that were read ahead are given. An earlier error
+    /// stays.
+    pub fn fail(&mut self, error: io::Error)
+        ensures gathers { Gathers ⟦<Gathered<S> as Read>⟧.remaining self.old self.new }
+        ensures standing { self.new.standing ≡ self.old.standing }
+        ensures ahead { ahead_in self.new.reader.inner ≡ ahead_in self.old.reader.inner }
+        ensures failed { HasFailed self.new.reader.inner }
+        ensures first { HasFailed self.old.reader.inner
+            → KeepsFault self.old.reader.inner self.new.reader.inner }
+    {
+        self.reader.inner.fail(error);
+    }
+
+    /// Returns the bytes that the feed read and did not take to those that were read ahead, if they came from
+    /// there, and returns the buffer. Frees the memory if no bytes are ahead then.
+    pub fn give_back(&mut self) -> Option<Room>
+        ensures gathers { Gathers ⟦<Gathered<S> as Read>⟧.remaining self.old self.new }
+        ensures kept { ahead_of self.new.standing ++ ahead_in self.new.reader.inner
+            ≡ ahead_of self.old.standing ++ ahead_in self.old.reader.inner }
+        ensures back { IsSome result → ahead_of self.new.standing ≡ [] }
+        ensures fault { KeepsFault self.old.reader.inner self.new.reader.inner }
+    {
+        let room = self.standing.give_back(&mut self.reader.inner);
+        self.reader.inner.let_go();
+        room
+    }
+}
+
+impl<R, S: Write> Seat<R, Outbox<S>> {
+    ghost use Rattle.std.specs.Prelude.{◌↔◌, ◌++◌, ℕ, List};
+    ghost use Rattle.std.specs.Io.KnownBytes.{Appends};
+    ghost use Rattle.wire.specs.Outgoing.{NoneFailed, WriteFailed, waits_out};
+    ghost use Rattle.wire.specs.Seats.{Sends};
+
+    /// Sends waiting bytes once, without waiting for the peer.
+    pub fn send(&mut self) -> Sending
+        ensures sends { Sends ⟦<Outbox<S> as Write>⟧.contents self.old self.new }
+        ensures sent { result ≡ Sending.Sent
+            ↔ ((waits_out self.new.writer.inner ≡ []) × NoneFailed self.new.writer.inner) }
+        ensures failed { result ≡ Sending.Failed ↔ WriteFailed self.new.writer.inner }
+        ensures takes { (bytes : List ℕ)
+            × (waits_out self.old.writer.inner ≡ bytes ++ waits_out self.new.writer.inner)
+            × Appends (S.contents self.old.writer.inner.inner) (S.contents self.new.writer.inner.inner) bytes }
+    {
+        self.writer.inner.send()
+    }
+}
