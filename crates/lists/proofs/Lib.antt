@@ -4,7 +4,7 @@ pub mod NextFiles
 pub mod LimitedBoxes
 pub mod Walked
 pub mod ToldLines
-pub mod Texts
+pub mod ListTexts
 pub mod Passed
 pub mod Entries
 pub mod Portions

@@ -1,7 +1,7 @@
 use Rattle.std.proofs.Common.{◌∙◌, map, inr, ap, ◌++◌, ◌∷◌, [], sym, arith}
 use Rattle.std.proofs.lemmas.Grind.{common_steps}
 use Rattle.lists.proofs.ReceiptLines.{map_push}
-use Rattle.lists.proofs.Texts.{last_cut}
+use Rattle.lists.proofs.ListTexts.{last_cut}
 use Rattle.lists.proofs.key_list.last_of.Goals as goal
 
 pub returns-in-Some : goal.returns-in-Some

@@ -1,5 +1,5 @@
 use Rattle.std.proofs.Common.{[], ◌∷◌, ◌∙◌, sym}
-use Rattle.lists.proofs.Texts.{seven_days}
+use Rattle.lists.proofs.ListTexts.{seven_days}
 use Rattle.lists.proofs.words.days_text.Goals as goal
 
 pub returns : goal.returns

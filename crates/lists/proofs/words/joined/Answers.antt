@@ -4,7 +4,7 @@ use Rattle.std.specs.declared.alloc.Global.{Global}
 use Rattle.std.proofs.lemmas.List.{at_drop_all, append-nil}
 use Rattle.std.proofs.lemmas.Grind.{common_steps}
 use Rattle.sigtext.proofs.JoinedTexts.{joined_behind, joined_behind-nil, pieces_written}
-use Rattle.lists.proofs.Texts.{joined_at, joined_first}
+use Rattle.lists.proofs.ListTexts.{joined_at, joined_first}
 use Rattle.lists.proofs.words.joined.Goals as goal
 
 pub others-init : goal.others-init
