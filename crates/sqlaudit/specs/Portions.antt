@@ -8,16 +8,14 @@ use Rattle.sqlite_value.specs.declared.keys.Collation.TheVariants.{Binary}
 use Rattle.sqlite_value.specs.declared.keys.Key.{Key as Sort}
 use Rattle.sqlite_value.specs.Order.{Row}
 use Rattle.sqlite_trees.specs.Tree.{IsAscending, rowid}
-use Rattle.sqlite_trees.specs.declared.store.Store.{Ghosts}
 use Rattle.sqlite_sql.specs.Term.{Term, col, op2, holds, eval_all}
 use Rattle.sqlite_sql.specs.declared.ops.BinaryOp.TheVariants.{Compare}
 use Rattle.sqlite_sql.specs.declared.ops.CompareOp.TheVariants.{Ge, Le}
 use Rattle.sqlite_rules.specs.Lists.{Has}
-use Rattle.sqlite.specs.declared.transaction.Transaction.{Transaction}
 use Rattle.sqlite.specs.State.{State, Shown, HasCleanDisk}
 use Rattle.sqltables.specs.Schema.{Version, IsVersion}
 use Rattle.sqltables.specs.Means.{IsRunning}
-use Rattle.sqltables.specs.Inside.{seen, HasSchema}
+use Rattle.sqltables.specs.Inside.{View, seen, HasSchema}
 use Rattle.sqlaudit.specs.Lines.{AreNumbersOf}
 use Rattle.sqltables.proofs.Says.{Asks}
 use Rattle.sqltables.proofs.Forms.{all_rows, some_rows, select}
@@ -47,11 +45,11 @@ pub record AsksBetween (v : Version) (sql : List ℕ) (tree : ℕ) (test : List 
   pub shows : (given row : Row) → eval_all project (given ∷ row ∷ []) ≡ show row
 
 -- P holds if the tables are those of this version
-abbrev pub OfTable : {S : Type 0} → Version → Ghosts S → Transaction S → Transaction S → Type 0 → Type 0
+abbrev pub OfTable : {S : Type 0} → Version → (S → View) → S → S → Type 0 → Type 0
 OfTable v g old new P = HasSchema v.schema (seen g old) → IsTrue (seen g old).in_transaction → HasCleanDisk (seen g new) → P
 
 -- P holds if the tables are those of this version and the connection is open
-abbrev pub OfRunning : {S : Type 0} → Version → Ghosts S → Transaction S → Transaction S → Type 0 → Type 0
+abbrev pub OfRunning : {S : Type 0} → Version → (S → View) → S → S → Type 0 → Type 0
 OfRunning v g old new P = HasSchema v.schema (seen g old) → IsRunning (seen g old) → HasCleanDisk (seen g new) → P
 
 -- ---- what the queries show

@@ -2,15 +2,13 @@
 use Rattle.std.specs.Prelude.{◌⊎◌, ℕ, List, slice_get, Contains}
 use Rattle.std.specs.FinMap.{FinMap}
 use Rattle.sqlite_value.specs.Order.{Row}
-use Rattle.sqlite_trees.specs.declared.store.Store.{Ghosts}
 use Rattle.sqlite_rules.specs.Lists.{Has}
-use Rattle.sqlite.specs.declared.transaction.Transaction.{Transaction}
 use Rattle.sqlite.specs.Effect.{Database}
 use Rattle.sqlite.specs.State.{HasCleanDisk}
 use Rattle.boxes.specs.State.{place_cmp, Receipt}
 use Rattle.sqltables.specs.Schema.{Version, IsVersion}
 use Rattle.sqltables.specs.Means.{IsRunning}
-use Rattle.sqltables.specs.Inside.{seen, HasSchema, HasWhole}
+use Rattle.sqltables.specs.Inside.{View, seen, HasSchema, HasWhole}
 use Rattle.sqlaudit.specs.Lines.{AreLines, IsFileLine, IsLater, IsPieceLine}
 use Rattle.sqlaudit.specs.Opened.{HasBytes, LacksBytes}
 use Rattle.sqlaudit.specs.Outlines.{IsPieceIn}
@@ -21,7 +19,7 @@ use Rattle.sqlaudit.specs.declared.lines.PieceLine.{PieceLine}
 use Rattle.sqlaudit.specs.declared.lines.ReceiptLine.{ReceiptLine}
 
 -- P holds if the tables are an office's, each row obeys them, and the connection is open
-abbrev pub OfRunningOffice : {S : Type 0} → Ghosts S → Transaction S → Transaction S → (Version → Type 0) → Type 0
+abbrev pub OfRunningOffice : {S : Type 0} → (S → View) → S → S → (Version → Type 0) → Type 0
 OfRunningOffice g old new P = (v : Version) → IsVersion v → HasSchema v.schema (seen g old) → HasWhole (seen g old)
     → IsRunning (seen g old) → HasCleanDisk (seen g new) → P v
 

@@ -13,7 +13,8 @@ ghost use Rattle.sqlaudit.specs.Opened.{AreBytesFound, IsBare, IsGivenFor, IsNot
 
 use crate::lines::{FileLine, ReceiptLine};
 use sigv4::Sha;
-use sqlite::{Alter, Error, ErrorCode, Transaction};
+use sqlite::{Error, ErrorCode};
+use sqltables::calls::Ledger;
 use sqltables::pieces::read_piece;
 use sqltables::{MOST_BYTES, PIECE};
 use std::alloc::Global;
@@ -41,18 +42,18 @@ fn have_digest(bytes: &[u8], given: &ReceiptLine) -> bool
 }
 
 /// Whether there is no first piece, and the receipt has the digest of no bytes.
-fn is_bare<S: Alter>(
-    tx: &mut Transaction<'_, S>,
+fn is_bare<T: Ledger>(
+    tx: &mut T,
     in_box: &str,
     name: &str,
     given: &ReceiptLine,
 ) -> Result<bool, Error>
-    ensures read { OfWholeOffice S.Store tx.old tx.new
+    ensures read { OfWholeOffice T.view tx.old tx.new
         (IfOk result (λ bare. MatchBool bare
-        (IsBare ((seen S.Store tx.old).now.trees 9) (placed in_box.now name.now) given.now)
-        (IsNotBare ((seen S.Store tx.old).now.trees 9) (placed in_box.now name.now) given.now))) }
-    ensures same { SameOffice S.Store tx.old tx.new result }
-    ensures rest { GoesOnBegun S.Store tx.old tx.new result }
+        (IsBare ((seen T.view tx.old).now.trees 9) (placed in_box.now name.now) given.now)
+        (IsNotBare ((seen T.view tx.old).now.trees 9) (placed in_box.now name.now) given.now))) }
+    ensures same { SameOffice T.view tx.old tx.new result }
+    ensures rest { GoesOnBegun T.view tx.old tx.new result }
 {
     if read_piece(tx, in_box, name, 0)?.is_some() {
         return Ok(false);
@@ -61,19 +62,19 @@ fn is_bare<S: Alter>(
 }
 
 /// The bytes of a file of this size, if all its pieces exist and have their right length.
-fn find_bytes<S: Alter>(
-    tx: &mut Transaction<'_, S>,
+fn find_bytes<T: Ledger>(
+    tx: &mut T,
     alloc: Global,
     in_box: &str,
     name: &str,
     size: u64,
 ) -> Result<Option<Vec<u8>>, Error>
-    ensures read { OfWholeOffice S.Store tx.old tx.new
-        (IfOk result (AreBytesFound ((seen S.Store tx.old).now.trees 9)
+    ensures read { OfWholeOffice T.view tx.old tx.new
+        (IfOk result (AreBytesFound ((seen T.view tx.old).now.trees 9)
         (placed in_box.now name.now) size)) }
-    ensures same { SameOffice S.Store tx.old tx.new result }
-    ensures rest { GoesOnWhere (IsRunning (seen S.Store tx.old))
-        (IsTrue (seen S.Store tx.old).in_transaction) S.Store tx.old tx.new result }
+    ensures same { SameOffice T.view tx.old tx.new result }
+    ensures rest { GoesOnWhere (IsRunning (seen T.view tx.old))
+        (IsTrue (seen T.view tx.old).in_transaction) T.view tx.old tx.new result }
 {
     let mut bytes = Vec::with_capacity(alloc, size.min(MOST_BYTES as u64) as usize)?;
     let mut part: u32 = 0;
@@ -96,19 +97,19 @@ fn find_bytes<S: Alter>(
 
 /// Whether the file's pieces are bytes with the length and the digest in its receipt. An empty file has no first piece.
 /// A missing receipt is the error `DatabaseCorrupt`.
-fn has_bytes<S: Alter>(
-    tx: &mut Transaction<'_, S>,
+fn has_bytes<T: Ledger>(
+    tx: &mut T,
     alloc: Global,
     receipts: &[ReceiptLine],
     file: &FileLine,
 ) -> Result<bool, Error>
-    ensures read { OfWholeOffice S.Store tx.old tx.new
+    ensures read { OfWholeOffice T.view tx.old tx.new
         (IfOk result
-        (λ has. MatchBool has (HasBytes ((seen S.Store tx.old).now.trees 9) receipts.now file.now)
-        (LacksBytes ((seen S.Store tx.old).now.trees 9) receipts.now file.now))) }
-    ensures same { SameOffice S.Store tx.old tx.new result }
-    ensures rest { GoesOnWhere (IsRunning (seen S.Store tx.old))
-        (IsTrue (seen S.Store tx.old).in_transaction) S.Store tx.old tx.new result }
+        (λ has. MatchBool has (HasBytes ((seen T.view tx.old).now.trees 9) receipts.now file.now)
+        (LacksBytes ((seen T.view tx.old).now.trees 9) receipts.now file.now))) }
+    ensures same { SameOffice T.view tx.old tx.new result }
+    ensures rest { GoesOnWhere (IsRunning (seen T.view tx.old))
+        (IsTrue (seen T.view tx.old).in_transaction) T.view tx.old tx.new result }
 {
     let Some(given) = receipt_for(receipts, file) else {
         return Err(Error::SqliteFailure(ErrorCode::DatabaseCorrupt));
@@ -130,25 +131,25 @@ fn has_bytes<S: Alter>(
 
 /// Whether each file's pieces are bytes with the length and the digest in its receipt, and no empty file has a first
 /// piece. Only one file is read at a time.
-pub(crate) fn have_bytes<S: Alter>(
-    tx: &mut Transaction<'_, S>,
+pub(crate) fn have_bytes<T: Ledger>(
+    tx: &mut T,
     alloc: Global,
     receipts: &[ReceiptLine],
     files: &[FileLine],
 ) -> Result<bool, Error>
-    ensures read { (v : Version) → IsVersion v → HasSchema v.schema (seen S.Store tx.old)
-        → HasWhole (seen S.Store tx.old)
-        → IsRunning (seen S.Store tx.old) → HasCleanDisk (seen S.Store tx.new)
+    ensures read { (v : Version) → IsVersion v → HasSchema v.schema (seen T.view tx.old)
+        → HasWhole (seen T.view tx.old)
+        → IsRunning (seen T.view tx.old) → HasCleanDisk (seen T.view tx.new)
         → IfOk result (λ have. MatchBool have
         ((file : FileLine) → Contains files.now file
-        → HasBytes ((seen S.Store tx.old).now.trees 9) receipts.now file)
+        → HasBytes ((seen T.view tx.old).now.trees 9) receipts.now file)
         ((file : FileLine) × Contains files.now file
-        × LacksBytes ((seen S.Store tx.old).now.trees 9) receipts.now file)) }
-    ensures same { (v : Version) → IsVersion v → HasSchema v.schema (seen S.Store tx.old)
-        → IsRunning (seen S.Store tx.old) → HasCleanDisk (seen S.Store tx.new)
-        → OnOk result ((seen S.Store tx.new).now ≡ (seen S.Store tx.old).now) }
-    ensures rest { GoesOnWhere (IsRunning (seen S.Store tx.old))
-        (IsRunning (seen S.Store tx.old)) S.Store tx.old tx.new result }
+        × LacksBytes ((seen T.view tx.old).now.trees 9) receipts.now file)) }
+    ensures same { (v : Version) → IsVersion v → HasSchema v.schema (seen T.view tx.old)
+        → IsRunning (seen T.view tx.old) → HasCleanDisk (seen T.view tx.new)
+        → OnOk result ((seen T.view tx.new).now ≡ (seen T.view tx.old).now) }
+    ensures rest { GoesOnWhere (IsRunning (seen T.view tx.old))
+        (IsRunning (seen T.view tx.old)) T.view tx.old tx.new result }
 {
     for file in files {
         if !has_bytes(tx, alloc, receipts, file)? {

@@ -16,32 +16,32 @@ use crate::lines::{
     numbers_of,
 };
 use crate::portions::{PORTION, list_long, list_numbers};
-use sqlite::{Alter, Error, Transaction};
-use sqltables::calls::query;
+use sqlite::Error;
+use sqltables::calls::Ledger;
 use std::alloc::Global;
 
 /// Each row that the query shows. Two rows with the same number in the first column are the error `DatabaseCorrupt`.
-fn list<S: Alter, L: Line + Drop>(tx: &mut Transaction<'_, S>, sql: &str) -> Result<Vec<L>, Error>
-    ensures read { HasCleanDisk (seen S.Store tx.new)
-        → IfOk result (λ lines. AreRead L.reads sql.now (seen S.Store tx.old)
-        (seen S.Store tx.new) lines.items) }
-    ensures rest { GoesOnBegun S.Store tx.old tx.new result }
+fn list<T: Ledger, L: Line + Drop>(tx: &mut T, sql: &str) -> Result<Vec<L>, Error>
+    ensures read { HasCleanDisk (seen T.view tx.new)
+        → IfOk result (λ lines. AreRead L.reads sql.now (seen T.view tx.old)
+        (seen T.view tx.new) lines.items) }
+    ensures rest { GoesOnBegun T.view tx.old tx.new result }
 {
-    let rows = query(tx, sql, &[])?;
+    let rows = tx.query(sql, &[])?;
     let alloc = *rows.allocator();
     numbers_of(alloc, &rows)?;
     lines_of(alloc, &rows)
 }
 
 /// The row of the office. The tables after the office's own need not exist yet.
-pub(crate) fn list_office<S: Alter>(tx: &mut Transaction<'_, S>) -> Result<Vec<OfficeLine>, Error>
-    ensures listed { OfBegunOffice S.Store tx.old tx.new (IfOk result
-        (λ lines. AreLines IsOfficeLine ((seen S.Store tx.old).now.trees 0) lines.items)) }
-    ensures rowids { OfBegunOffice S.Store tx.old tx.new
-        (OnOk result (HaveRowids ((seen S.Store tx.old).now.trees 0))) }
-    ensures same { OfBegunOffice S.Store tx.old tx.new
-        (OnOk result ((seen S.Store tx.new).now ≡ (seen S.Store tx.old).now)) }
-    ensures rest { GoesOnBegun S.Store tx.old tx.new result }
+pub(crate) fn list_office<T: Ledger>(tx: &mut T) -> Result<Vec<OfficeLine>, Error>
+    ensures listed { OfBegunOffice T.view tx.old tx.new (IfOk result
+        (λ lines. AreLines IsOfficeLine ((seen T.view tx.old).now.trees 0) lines.items)) }
+    ensures rowids { OfBegunOffice T.view tx.old tx.new
+        (OnOk result (HaveRowids ((seen T.view tx.old).now.trees 0))) }
+    ensures same { OfBegunOffice T.view tx.old tx.new
+        (OnOk result ((seen T.view tx.new).now ≡ (seen T.view tx.old).now)) }
+    ensures rest { GoesOnBegun T.view tx.old tx.new result }
 {
     list(
         tx,
@@ -72,12 +72,12 @@ fn unlimited(alloc: Global) -> Result<Added, Error>
 }
 
 /// The tables that version 2 adds.
-fn list_second<S: Alter>(tx: &mut Transaction<'_, S>) -> Result<Added, Error>
-    ensures listed { OfTables v2 S.Store tx.old tx.new (IfOk result
-        (λ added. AreAdded v2 (seen S.Store tx.old).now added.rules.items added.limits.items)) }
-    ensures same { OfTables v2 S.Store tx.old tx.new
-        (OnOk result ((seen S.Store tx.new).now ≡ (seen S.Store tx.old).now)) }
-    ensures rest { GoesOnBegun S.Store tx.old tx.new result }
+fn list_second<T: Ledger>(tx: &mut T) -> Result<Added, Error>
+    ensures listed { OfTables v2 T.view tx.old tx.new (IfOk result
+        (λ added. AreAdded v2 (seen T.view tx.old).now added.rules.items added.limits.items)) }
+    ensures same { OfTables v2 T.view tx.old tx.new
+        (OnOk result ((seen T.view tx.new).now ≡ (seen T.view tx.old).now)) }
+    ensures rest { GoesOnBegun T.view tx.old tx.new result }
 {
     Ok(Added {
         rules: list(tx, "SELECT rowid, id, allowance FROM rules ORDER BY id")?,
@@ -89,18 +89,14 @@ fn list_second<S: Alter>(tx: &mut Transaction<'_, S>) -> Result<Added, Error>
 }
 
 /// The tables that version 2 adds; for an office of version 1, the equivalent values.
-fn list_added<S: Alter>(
-    tx: &mut Transaction<'_, S>,
-    alloc: Global,
-    format: Format,
-) -> Result<Added, Error>
-    ensures listed { OfTables (version_of format) S.Store tx.old tx.new (IfOk result
-        (λ added. AreAdded (version_of format) (seen S.Store tx.old).now
+fn list_added<T: Ledger>(tx: &mut T, alloc: Global, format: Format) -> Result<Added, Error>
+    ensures listed { OfTables (version_of format) T.view tx.old tx.new (IfOk result
+        (λ added. AreAdded (version_of format) (seen T.view tx.old).now
         added.rules.items added.limits.items)) }
-    ensures same { OfTables (version_of format) S.Store tx.old tx.new
-        (OnOk result ((seen S.Store tx.new).now ≡ (seen S.Store tx.old).now)) }
-    ensures rest { GoesOnWhere (IsRunning (seen S.Store tx.old))
-        (IsTrue (seen S.Store tx.old).in_transaction) S.Store tx.old tx.new result }
+    ensures same { OfTables (version_of format) T.view tx.old tx.new
+        (OnOk result ((seen T.view tx.new).now ≡ (seen T.view tx.old).now)) }
+    ensures rest { GoesOnWhere (IsRunning (seen T.view tx.old))
+        (IsTrue (seen T.view tx.old).in_transaction) T.view tx.old tx.new result }
 {
     match format {
         Format::First => unlimited(alloc),
@@ -123,16 +119,16 @@ pub(crate) struct Listed {
 
 /// Reads every table except the office's own: of the files only the rowids, and of the pieces those that are not the first of
 /// their file.
-pub(crate) fn list_all<S: Alter>(
-    tx: &mut Transaction<'_, S>,
+pub(crate) fn list_all<T: Ledger>(
+    tx: &mut T,
     alloc: Global,
     format: Format,
 ) -> Result<Listed, Error>
-    ensures listed { OfWholeTables (version_of format) S.Store tx.old tx.new
-        (IfOk result (AreTables (version_of format) (seen S.Store tx.old).now)) }
-    ensures same { OfTables (version_of format) S.Store tx.old tx.new
-        (OnOk result ((seen S.Store tx.new).now ≡ (seen S.Store tx.old).now)) }
-    ensures rest { GoesOnBegun S.Store tx.old tx.new result }
+    ensures listed { OfWholeTables (version_of format) T.view tx.old tx.new
+        (IfOk result (AreTables (version_of format) (seen T.view tx.old).now)) }
+    ensures same { OfTables (version_of format) T.view tx.old tx.new
+        (OnOk result ((seen T.view tx.new).now ≡ (seen T.view tx.old).now)) }
+    ensures rest { GoesOnBegun T.view tx.old tx.new result }
 {
     Ok(Listed {
         keys: list(

@@ -20,8 +20,9 @@ use crate::piece_rules::{are_pieces, have_totals};
 use crate::receipt_rules::{are_rising, fit_version};
 use crate::rules::{Lines, are_sound};
 use crate::walking::test_files;
-use sqlite::{Alter, Connection, Error, ErrorCode, Transaction};
+use sqlite::{Alter, Connection, Error, ErrorCode};
 use sqlite_schema::schema::{Schema, Table};
+use sqltables::calls::Ledger;
 use std::alloc::Global;
 
 /// The result of testing an office file for one version.
@@ -165,21 +166,21 @@ fn versioned(lines: &[OfficeLine]) -> Option<&OfficeLine>
 
 /// Whether the lines are those of an office of this version whose files have their bytes. Receipts that are not in the order
 /// of their numbers are the error `DatabaseCorrupt`.
-fn is_sound<S: Alter>(
-    tx: &mut Transaction<'_, S>,
+fn is_sound<T: Ledger>(
+    tx: &mut T,
     alloc: Global,
     office: &[OfficeLine],
     listed: &Listed,
     format: Format,
 ) -> Result<bool, Error>
-    ensures found { OfVersion (version_of format) S.Store tx.old tx.new office.now
-        (AreTables (version_of format) (seen S.Store tx.old).now listed.now → IfOk result
+    ensures found { OfVersion (version_of format) T.view tx.old tx.new office.now
+        (AreTables (version_of format) (seen T.view tx.old).now listed.now → IfOk result
         (λ sound. MatchBool sound
-        ((office : Office) × AreOffice (version_of format) (seen S.Store tx.old).now office)
-        ((office : Office) → AreOffice (version_of format) (seen S.Store tx.old).now office
+        ((office : Office) × AreOffice (version_of format) (seen T.view tx.old).now office)
+        ((office : Office) → AreOffice (version_of format) (seen T.view tx.old).now office
         → ⊥))) }
-    ensures rest { GoesOnWhere (IsRunning (seen S.Store tx.old))
-        (IsRunning (seen S.Store tx.old)) S.Store tx.old tx.new result }
+    ensures rest { GoesOnWhere (IsRunning (seen T.view tx.old))
+        (IsRunning (seen T.view tx.old)) T.view tx.old tx.new result }
 {
     let lines = Lines {
         office,
@@ -222,16 +223,16 @@ fn finding_of(sound: bool) -> Finding
 }
 
 /// Tests the whole tables of an office of this version.
-fn look_at_all<S: Alter>(
-    tx: &mut Transaction<'_, S>,
+fn look_at_all<T: Ledger>(
+    tx: &mut T,
     alloc: Global,
     office: &[OfficeLine],
     format: Format,
 ) -> Result<Finding, Error>
-    ensures found { OfVersion (version_of format) S.Store tx.old tx.new office.now (IfOk result
-        (λ finding. IsFound (version_of format) finding (seen S.Store tx.old).now)) }
-    ensures rest { GoesOnWhere (IsRunning (seen S.Store tx.old))
-        (IsRunning (seen S.Store tx.old)) S.Store tx.old tx.new result }
+    ensures found { OfVersion (version_of format) T.view tx.old tx.new office.now (IfOk result
+        (λ finding. IsFound (version_of format) finding (seen T.view tx.old).now)) }
+    ensures rest { GoesOnWhere (IsRunning (seen T.view tx.old))
+        (IsRunning (seen T.view tx.old)) T.view tx.old tx.new result }
 {
     let listed = list_all(tx, alloc, format)?;
     let sound = is_sound(tx, alloc, office, &listed, format)?;
@@ -239,18 +240,18 @@ fn look_at_all<S: Alter>(
 }
 
 /// Tests the tables of an office, starting with its version.
-fn look<S: Alter>(
-    tx: &mut Transaction<'_, S>,
+fn look<T: Ledger>(
+    tx: &mut T,
     alloc: Global,
     extent: Extent,
     format: Format,
 ) -> Result<Finding, Error>
-    ensures found { IsBegunAs (version_of format) extent (seen S.Store tx.old)
-        → IsTrue (seen S.Store tx.old).in_transaction → HasCleanDisk (seen S.Store tx.new)
+    ensures found { IsBegunAs (version_of format) extent (seen T.view tx.old)
+        → IsTrue (seen T.view tx.old).in_transaction → HasCleanDisk (seen T.view tx.new)
         → IfOk result
-        (λ finding. IsFound (version_of format) finding (seen S.Store tx.old).now) }
+        (λ finding. IsFound (version_of format) finding (seen T.view tx.old).now) }
     ensures whole { IfOk result (λ finding. finding ≡ Finding.Sound → extent ≡ Extent.Whole) }
-    ensures rest { GoesOnBegun S.Store tx.old tx.new result }
+    ensures rest { GoesOnBegun T.view tx.old tx.new result }
 {
     let office = list_office(tx)?;
     let Some(line) = versioned(&office) else {

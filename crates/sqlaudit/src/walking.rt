@@ -12,26 +12,27 @@ use crate::digests::have_bytes;
 use crate::file_rules::{Filed, add_lines};
 use crate::lines::{FileLine, ReceiptLine};
 use crate::portions::{PORTION, list_between};
-use sqlite::{Alter, Error, Transaction};
+use sqlite::Error;
+use sqltables::calls::Ledger;
 use std::alloc::Global;
 use std::collections::BTreeMap;
 
 /// The files with these rowids, if each has the receipt that it names, and its bytes.
-pub(crate) fn test_files<'a, S: Alter>(
-    tx: &mut Transaction<'_, S>,
+pub(crate) fn test_files<'a, T: Ledger>(
+    tx: &mut T,
     alloc: Global,
     numbers: &[i64],
     receipts: &'a [ReceiptLine],
 ) -> Result<Option<Filed<'a>>, Error>
     ensures read { (rs : List Receipt) → HoldsReceipts receipts.now rs
-        → AreRowids ((seen S.Store tx.old).now.trees 6) numbers.now
-        → OfRunningOffice S.Store tx.old tx.new (λ v. IfOk result (λ found. MatchOption found
-        (LackFiles rs receipts.now (seen S.Store tx.old).now)
-        (AreAllFiles rs receipts.now (seen S.Store tx.old).now))) }
-    ensures same { OfRunningOffice S.Store tx.old tx.new
-        (λ v. OnOk result ((seen S.Store tx.new).now ≡ (seen S.Store tx.old).now)) }
-    ensures rest { GoesOnWhere (IsRunning (seen S.Store tx.old))
-        (IsRunning (seen S.Store tx.old)) S.Store tx.old tx.new result }
+        → AreRowids ((seen T.view tx.old).now.trees 6) numbers.now
+        → OfRunningOffice T.view tx.old tx.new (λ v. IfOk result (λ found. MatchOption found
+        (LackFiles rs receipts.now (seen T.view tx.old).now)
+        (AreAllFiles rs receipts.now (seen T.view tx.old).now))) }
+    ensures same { OfRunningOffice T.view tx.old tx.new
+        (λ v. OnOk result ((seen T.view tx.new).now ≡ (seen T.view tx.old).now)) }
+    ensures rest { GoesOnWhere (IsRunning (seen T.view tx.old))
+        (IsRunning (seen T.view tx.old)) T.view tx.old tx.new result }
 {
     let mut files = BTreeMap::new(alloc);
     let mut sums = BTreeMap::new(alloc);

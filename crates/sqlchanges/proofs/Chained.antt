@@ -2,16 +2,14 @@
 use Rattle.std.proofs.Common.{◌∙◌, arith, refl, Ok, Err, Result}
 use Rattle.std.specs.Result.{IsErr}
 use Rattle.std.proofs.lemmas.Result.{IfOk-from_err}
-use Rattle.sqlite_trees.specs.declared.store.Store.{Ghosts}
 use Rattle.sqlite.specs.declared.error.Error.{Error}
-use Rattle.sqlite.specs.declared.transaction.Transaction.{Transaction}
 use Rattle.sqlite.specs.State.{HasCleanDisk}
-use Rattle.sqltables.specs.Inside.{seen, GoesOnInside, GoesOnWhere}
+use Rattle.sqltables.specs.Inside.{View, seen, GoesOnInside, GoesOnWhere}
 use Rattle.sqltables.specs.Means.{IsRunning}
 use Rattle.sqltables.proofs.Building.{survives_itself, survives_then, keeps_then}
 use Rattle.sqltables.proofs.Runs.{itself_keeps}
 
-pub goes_on_then : {S T U : Type 0} (g : Ghosts S) (a b c : Transaction S) (r : Result T Error) (q : Result U Error)
+pub goes_on_then : {S T U : Type 0} (g : S → View) (a b c : S) (r : Result T Error) (q : Result U Error)
     → GoesOnInside g a b r → GoesOnInside g b c q → GoesOnInside g a c q
 goes_on_then g a b c r q one two = record {
   same_reference = two.same_reference ∙ one.same_reference;
@@ -22,13 +20,13 @@ goes_on_then g a b c r q one two = record {
   survives = survives_then (seen g a) (seen g b) (seen g c) one.survives two.survives;
 }
 
-module _ {S : Type 0} {g : Ghosts S} where
+module _ {S : Type 0} {g : S → View} where
   -- nothing was called, and there is an error
-  pub refused : {T : Type 0} {error : Error} (tx : Transaction S) → GoesOnInside {T = T} g tx tx (Err error)
+  pub refused : {T : Type 0} {error : Error} (tx : S) → GoesOnInside {T = T} g tx tx (Err error)
   refused tx = record { same_reference = refl; running = λ clean. tt; uncommitted = λ clean. itself_keeps (seen g tx); survives = survives_itself (seen g tx) }
 
   -- nothing was called, and the result is an error
-  pub gave_up : {T : Type 0} (tx : Transaction S) (result : Result T Error) → IsErr result → GoesOnInside g tx tx result
+  pub gave_up : {T : Type 0} (tx : S) (result : Result T Error) → IsErr result → GoesOnInside g tx tx result
   gave_up tx result err = record {
     same_reference = refl;
     running = λ clean. IfOk-from_err result _ err;
@@ -36,7 +34,7 @@ module _ {S : Type 0} {g : Ghosts S} where
     survives = survives_itself (seen g tx);
   }
 
-  module _ {old new : Transaction S} where
+  module _ {old new : S} where
     -- the effect of a failed call, for another error
     pub failed : {T U : Type 0} {first : Result T Error} (result : Result U Error) → GoesOnInside g old new first → IsErr result → GoesOnInside g old new result
     failed result goes err = record { same_reference = goes.same_reference; running = λ clean. IfOk-from_err result _ err; uncommitted = goes.uncommitted; survives = goes.survives }
@@ -55,7 +53,7 @@ module _ {S : Type 0} {g : Ghosts S} where
     }
 
   -- a call, and then one that may have nothing to run
-  pub goes_on_maybe : {T U : Type 0} {old mid new : Transaction S} {value : T} {result : Result U Error} → GoesOnInside g old mid (Ok value) → GoesOnWhere (IsRunning (seen g mid)) (Unit {0}) g mid new result
+  pub goes_on_maybe : {T U : Type 0} {old mid new : S} {value : T} {result : Result U Error} → GoesOnInside g old mid (Ok value) → GoesOnWhere (IsRunning (seen g mid)) (Unit {0}) g mid new result
       → GoesOnInside g old new result
   goes_on_maybe {old = old} {mid = mid} {new = new} one two =
       let early : HasCleanDisk (seen g new) → HasCleanDisk (seen g mid) = λ clean. omega (arith, clean, two.survives.clean) in

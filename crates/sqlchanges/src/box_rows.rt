@@ -12,7 +12,8 @@ ghost use Rattle.sqlchanges.specs.BoxRows.{AreValuesOf};
 
 use crate::running::run;
 use boxes::{BoxRow, Mode, NameRule};
-use sqlite::{Alter, Error, ErrorCode, Transaction, params};
+use sqlite::{Error, ErrorCode, params};
+use sqltables::calls::Ledger;
 use sqltables::reading::digits_of_days;
 use std::alloc::{AllocError, Global};
 
@@ -45,17 +46,17 @@ pub(crate) struct BoxValues<'a> {
 }
 
 /// Inserts a box that holds nothing.
-pub(crate) fn insert_values<S: Alter>(
-    tx: &mut Transaction<'_, S>,
+pub(crate) fn insert_values<T: Ledger>(
+    tx: &mut T,
     name: &str,
     values: &BoxValues<'_>,
 ) -> Result<(), Error>
     ensures done { (v : Version) (tables : Tables) (b : Settings) → IsVersion v
-        → Pends v (seen S.Store tx.old) tables → tables.box name.now ≡ None
+        → Pends v (seen T.view tx.old) tables → tables.box name.now ≡ None
         → AreValuesOf values.now b
-        → OnOk result (Pends v (seen S.Store tx.new)
+        → OnOk result (Pends v (seen T.view tx.new)
         (with_box tables name.now (record { settings = b; used = 0; count = 0 }))) }
-    ensures rest { GoesOnInside S.Store tx.old tx.new result }
+    ensures rest { GoesOnInside T.view tx.old tx.new result }
 {
     run(
         tx,
@@ -141,19 +142,19 @@ fn values_of<'a>(row: &BoxRow, days: &'a str, text: &'a str) -> Result<BoxValues
 }
 
 /// Inserts a box that holds nothing. The text of its rule is given as bytes.
-fn insert_with_text<S: Alter>(
-    tx: &mut Transaction<'_, S>,
+fn insert_with_text<T: Ledger>(
+    tx: &mut T,
     name: &str,
     row: &BoxRow,
     text: &[u8],
 ) -> Result<(), Error>
     ensures done { (v : Version) (tables : Tables) → IsVersion v
-        → Pends v (seen S.Store tx.old) tables → tables.box name.now ≡ None
+        → Pends v (seen T.view tx.old) tables → tables.box name.now ≡ None
         → text.now ≡ rule_text (name_rule_of row.now.rule)
-        → OnOk result (Pends v (seen S.Store tx.new)
+        → OnOk result (Pends v (seen T.view tx.new)
         (with_box tables name.now
         (record { settings = settings_of row.now; used = 0; count = 0 }))) }
-    ensures rest { GoesOnInside S.Store tx.old tx.new result }
+    ensures rest { GoesOnInside T.view tx.old tx.new result }
 {
     let digits = digits_of_days(row.days);
     let days = str::from_utf8(&digits).unwrap();
@@ -165,17 +166,13 @@ fn insert_with_text<S: Alter>(
 ///
 /// A number that does not fit in `i64` is refused with `TooBig`, a rule text that is not UTF-8 with `Utf8Error`, and a text
 /// for which there is no memory with `OutOfMemory`. In these cases nothing is written.
-pub fn insert_box<S: Alter>(
-    tx: &mut Transaction<'_, S>,
-    name: &str,
-    row: &BoxRow,
-) -> Result<(), Error>
+pub fn insert_box<T: Ledger>(tx: &mut T, name: &str, row: &BoxRow) -> Result<(), Error>
     ensures done { (v : Version) (tables : Tables) → IsVersion v
-        → Pends v (seen S.Store tx.old) tables → tables.box name.now ≡ None
-        → OnOk result (Pends v (seen S.Store tx.new)
+        → Pends v (seen T.view tx.old) tables → tables.box name.now ≡ None
+        → OnOk result (Pends v (seen T.view tx.new)
         (with_box tables name.now
         (record { settings = settings_of row.now; used = 0; count = 0 }))) }
-    ensures rest { GoesOnInside S.Store tx.old tx.new result }
+    ensures rest { GoesOnInside T.view tx.old tx.new result }
 {
     match &row.rule {
         NameRule::Any => insert_with_text(tx, name, row, b""),

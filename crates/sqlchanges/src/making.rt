@@ -13,29 +13,30 @@ use crate::running::run;
 use crate::statements::insert_key;
 use boxes::Role;
 use sigv4::Allowance;
-use sqlite::{Alter, Error, Transaction, params};
+use sqlite::{Error, params};
+use sqltables::calls::Ledger;
 
 /// Creates a table without rows, besides the existing tables, by running this text.
-fn create_table<S: Alter>(tx: &mut Transaction<'_, S>, sql: &str) -> Result<(), Error>
+fn create_table<T: Ledger>(tx: &mut T, sql: &str) -> Result<(), Error>
     ensures done { (before after : Schema)
-        → Creates sql.now before after (seen S.Store tx.old) (seen S.Store tx.new)
-        → SeesNothing before (seen S.Store tx.old)
-        → OnOk result (SeesNothing after (seen S.Store tx.new)) }
+        → Creates sql.now before after (seen T.view tx.old) (seen T.view tx.new)
+        → SeesNothing before (seen T.view tx.old)
+        → OnOk result (SeesNothing after (seen T.view tx.new)) }
     ensures added { (before after : Schema) (empty more : List ℕ) (tables : Tables)
-        → AddsTable sql.now before after empty more tables (seen S.Store tx.old) (seen S.Store tx.new)
-        → SeesMore before empty (seen S.Store tx.old) tables
-        → OnOk result (SeesMore after more (seen S.Store tx.new) tables) }
-    ensures rest { GoesOnInside S.Store tx.old tx.new result }
+        → AddsTable sql.now before after empty more tables (seen T.view tx.old) (seen T.view tx.new)
+        → SeesMore before empty (seen T.view tx.old) tables
+        → OnOk result (SeesMore after more (seen T.view tx.new) tables) }
+    ensures rest { GoesOnInside T.view tx.old tx.new result }
 {
     run(tx, sql, &[])
 }
 
 /// Creates the six tables of version 1: the office's own, its keys, its boxes, its receipts, its files without their bytes,
 /// and those bytes.
-fn create_tables<S: Alter>(tx: &mut Transaction<'_, S>) -> Result<(), Error>
-    ensures done { SeesNothing s0 (seen S.Store tx.old)
-        → OnOk result (SeesNothing s6 (seen S.Store tx.new)) }
-    ensures rest { GoesOnInside S.Store tx.old tx.new result }
+fn create_tables<T: Ledger>(tx: &mut T) -> Result<(), Error>
+    ensures done { SeesNothing s0 (seen T.view tx.old)
+        → OnOk result (SeesNothing s6 (seen T.view tx.new)) }
+    ensures rest { GoesOnInside T.view tx.old tx.new result }
 {
     create_table(
         tx,
@@ -64,10 +65,10 @@ fn create_tables<S: Alter>(tx: &mut Transaction<'_, S>) -> Result<(), Error>
 }
 
 /// Inserts the row of the office: version 1, and the offset of its clock east of UTC, in minutes.
-fn insert_office<S: Alter>(tx: &mut Transaction<'_, S>, east: i16) -> Result<(), Error>
-    ensures done { SeesNothing s6 (seen S.Store tx.old)
-        → OnOk result (Pends v1 (seen S.Store tx.new) (no_rows east 0)) }
-    ensures rest { GoesOnInside S.Store tx.old tx.new result }
+fn insert_office<T: Ledger>(tx: &mut T, east: i16) -> Result<(), Error>
+    ensures done { SeesNothing s6 (seen T.view tx.old)
+        → OnOk result (Pends v1 (seen T.view tx.new) (no_rows east 0)) }
+    ensures rest { GoesOnInside T.view tx.old tx.new result }
 {
     run(
         tx,
@@ -77,10 +78,10 @@ fn insert_office<S: Alter>(tx: &mut Transaction<'_, S>, east: i16) -> Result<(),
 }
 
 /// Creates the three tables that version 2 adds: the office's rules, the boxes of limited keys, and what is staged.
-fn add_tables<S: Alter>(tx: &mut Transaction<'_, S>) -> Result<(), Error>
-    ensures done { (tables : Tables) → Pends v1 (seen S.Store tx.old) tables
-        → OnOk result (SeesMore s9 (14 ∷ 12 ∷ 11 ∷ []) (seen S.Store tx.new) tables) }
-    ensures rest { GoesOnInside S.Store tx.old tx.new result }
+fn add_tables<T: Ledger>(tx: &mut T) -> Result<(), Error>
+    ensures done { (tables : Tables) → Pends v1 (seen T.view tx.old) tables
+        → OnOk result (SeesMore s9 (14 ∷ 12 ∷ 11 ∷ []) (seen T.view tx.new) tables) }
+    ensures rest { GoesOnInside T.view tx.old tx.new result }
 {
     create_table(
         tx,
@@ -97,32 +98,32 @@ fn add_tables<S: Alter>(tx: &mut Transaction<'_, S>) -> Result<(), Error>
 }
 
 /// Inserts the row of the rules: how many seconds early a link may begin.
-fn insert_rules<S: Alter>(tx: &mut Transaction<'_, S>, seconds: u32) -> Result<(), Error>
-    ensures done { (tables : Tables) → SeesMore s9 (14 ∷ 12 ∷ 11 ∷ []) (seen S.Store tx.old) tables
-        → OnOk result (SeesRules (seen S.Store tx.new) tables seconds) }
-    ensures rest { GoesOnInside S.Store tx.old tx.new result }
+fn insert_rules<T: Ledger>(tx: &mut T, seconds: u32) -> Result<(), Error>
+    ensures done { (tables : Tables) → SeesMore s9 (14 ∷ 12 ∷ 11 ∷ []) (seen T.view tx.old) tables
+        → OnOk result (SeesRules (seen T.view tx.new) tables seconds) }
+    ensures rest { GoesOnInside T.view tx.old tx.new result }
 {
     run(tx, "INSERT INTO rules VALUES (1, ?1)", params![seconds])
 }
 
 /// Sets the version in the office's row to 2.
-fn update_version<S: Alter>(tx: &mut Transaction<'_, S>) -> Result<(), Error>
-    ensures done { (tables : Tables) (seconds : ℕ) → SeesRules (seen S.Store tx.old) tables seconds
-        → OnOk result (Pends v2 (seen S.Store tx.new) (with_allowance tables seconds)) }
-    ensures unstaged { (tables : Tables) (seconds : ℕ) → SeesRules (seen S.Store tx.old) tables seconds
-        → OnOk result (SeesUnstaged (seen S.Store tx.new)) }
-    ensures rest { GoesOnInside S.Store tx.old tx.new result }
+fn update_version<T: Ledger>(tx: &mut T) -> Result<(), Error>
+    ensures done { (tables : Tables) (seconds : ℕ) → SeesRules (seen T.view tx.old) tables seconds
+        → OnOk result (Pends v2 (seen T.view tx.new) (with_allowance tables seconds)) }
+    ensures unstaged { (tables : Tables) (seconds : ℕ) → SeesRules (seen T.view tx.old) tables seconds
+        → OnOk result (SeesUnstaged (seen T.view tx.new)) }
+    ensures rest { GoesOnInside T.view tx.old tx.new result }
 {
     run(tx, "UPDATE office SET version = 2", &[])
 }
 
 /// Upgrades the tables of an office from version 1 to version 2. All rows stay, no key is limited, and nothing is staged.
-pub fn upgrade<S: Alter>(tx: &mut Transaction<'_, S>, allowance: Allowance) -> Result<(), Error>
-    ensures done { (tables : Tables) → Pends v1 (seen S.Store tx.old) tables
-        → OnOk result (Pends v2 (seen S.Store tx.new) (with_allowance tables allowance)) }
-    ensures unstaged { (tables : Tables) → Pends v1 (seen S.Store tx.old) tables
-        → OnOk result (SeesUnstaged (seen S.Store tx.new)) }
-    ensures rest { GoesOnInside S.Store tx.old tx.new result }
+pub fn upgrade<T: Ledger>(tx: &mut T, allowance: Allowance) -> Result<(), Error>
+    ensures done { (tables : Tables) → Pends v1 (seen T.view tx.old) tables
+        → OnOk result (Pends v2 (seen T.view tx.new) (with_allowance tables allowance)) }
+    ensures unstaged { (tables : Tables) → Pends v1 (seen T.view tx.old) tables
+        → OnOk result (SeesUnstaged (seen T.view tx.new)) }
+    ensures rest { GoesOnInside T.view tx.old tx.new result }
 {
     add_tables(tx)?;
     insert_rules(tx, allowance.seconds() as u32)?;
@@ -131,20 +132,20 @@ pub fn upgrade<S: Alter>(tx: &mut Transaction<'_, S>, allowance: Allowance) -> R
 
 /// Creates the tables of an office of version 2 that has one key, a clerk's, and nothing else. Nothing is staged. An office of
 /// version 1 is created first.
-pub fn make_office<S: Alter>(
-    tx: &mut Transaction<'_, S>,
+pub fn make_office<T: Ledger>(
+    tx: &mut T,
     east: i16,
     allowance: Allowance,
     id: &str,
     secret: &[u8],
 ) -> Result<(), Error>
-    ensures done { SeesNothing s0 (seen S.Store tx.old)
-        → OnOk result (Pends v2 (seen S.Store tx.new)
+    ensures done { SeesNothing s0 (seen T.view tx.old)
+        → OnOk result (Pends v2 (seen T.view tx.new)
         (with_key (no_rows east allowance) id.now
         (record { role = Clerk; secret = secret.now; revoked = false }))) }
-    ensures unstaged { SeesNothing s0 (seen S.Store tx.old)
-        → OnOk result (SeesUnstaged (seen S.Store tx.new)) }
-    ensures rest { GoesOnInside S.Store tx.old tx.new result }
+    ensures unstaged { SeesNothing s0 (seen T.view tx.old)
+        → OnOk result (SeesUnstaged (seen T.view tx.new)) }
+    ensures rest { GoesOnInside T.view tx.old tx.new result }
 {
     create_tables(tx)?;
     insert_office(tx, east)?;

@@ -6,21 +6,17 @@ ghost use Rattle.sqlite.specs.Values.{bound};
 ghost use Rattle.sqltables.specs.Inside.{seen, GoesOnInside};
 ghost use Rattle.sqlchanges.specs.Running.{HasRun};
 
+use sqlite::Error;
 use sqlite::types::ValueRef;
-use sqlite::{Alter, Error, Transaction};
-use sqltables::calls::execute;
+use sqltables::calls::Ledger;
 
 /// Runs a statement that writes, inside a transaction. How many rows it writes is not told.
-pub(crate) fn run<S: Alter>(
-    tx: &mut Transaction<'_, S>,
-    sql: &str,
-    params: &[ValueRef<'_>],
-) -> Result<(), Error>
-    ensures ran { HasCleanDisk (seen S.Store tx.new)
+pub(crate) fn run<T: Ledger>(tx: &mut T, sql: &str, params: &[ValueRef<'_>]) -> Result<(), Error>
+    ensures ran { HasCleanDisk (seen T.view tx.new)
         → OnOk result (HasRun sql.now (bound params.now)
-        (seen S.Store tx.old) (seen S.Store tx.new)) }
-    ensures rest { GoesOnInside S.Store tx.old tx.new result }
+        (seen T.view tx.old) (seen T.view tx.new)) }
+    ensures rest { GoesOnInside T.view tx.old tx.new result }
 {
-    execute(tx, sql, params)?;
+    tx.execute(sql, params)?;
     Ok(())
 }

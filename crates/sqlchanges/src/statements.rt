@@ -11,12 +11,13 @@ ghost use Rattle.sqltables.specs.Staging.{held};
 
 use crate::running::run;
 use boxes::Role;
-use sqlite::{Alter, Error, Transaction, params};
+use sqlite::{Error, params};
+use sqltables::calls::Ledger;
 use sqltables::staging::Pieces;
 
 /// Inserts a receipt.
-pub(crate) fn insert_receipt<S: Alter>(
-    tx: &mut Transaction<'_, S>,
+pub(crate) fn insert_receipt<T: Ledger>(
+    tx: &mut T,
     number: u32,
     box_name: &str,
     name: &str,
@@ -26,11 +27,11 @@ pub(crate) fn insert_receipt<S: Alter>(
     key: &str,
 ) -> Result<(), Error>
     ensures done { (v : Version) (tables : Tables) (at : ℕ) (r : Receipt) → IsVersion v
-        → Pends v (seen S.Store tx.old) tables → tables.receipt at ≡ None
+        → Pends v (seen T.view tx.old) tables → tables.receipt at ≡ None
         → number ≡ at + 1 → r.box ≡ box_name.now → r.name ≡ name.now → r.size ≡ length
         → r.digest ≡ digest.now → pos r.moment ≡ moment → r.key ≡ key.now
-        → OnOk result (Pends v (seen S.Store tx.new) (with_receipt tables at r)) }
-    ensures rest { GoesOnInside S.Store tx.old tx.new result }
+        → OnOk result (Pends v (seen T.view tx.new) (with_receipt tables at r)) }
+    ensures rest { GoesOnInside T.view tx.old tx.new result }
 {
     run(
         tx,
@@ -40,19 +41,19 @@ pub(crate) fn insert_receipt<S: Alter>(
 }
 
 /// Inserts a piece of a file.
-pub(crate) fn insert_piece<S: Alter>(
-    tx: &mut Transaction<'_, S>,
+pub(crate) fn insert_piece<T: Ledger>(
+    tx: &mut T,
     box_name: &str,
     name: &str,
     part: u32,
     bytes: &[u8],
 ) -> Result<(), Error>
     ensures done { (v : Version) (tables after : Tables) → IsVersion v
-        → Pends v (seen S.Store tx.old) tables
+        → Pends v (seen T.view tx.old) tables
         → AddsPiece tables after
         (record { place = placed box_name.now name.now; at = part }) bytes.now
-        → OnOk result (Pends v (seen S.Store tx.new) after) }
-    ensures rest { GoesOnInside S.Store tx.old tx.new result }
+        → OnOk result (Pends v (seen T.view tx.new) after) }
+    ensures rest { GoesOnInside T.view tx.old tx.new result }
 {
     run(
         tx,
@@ -62,14 +63,10 @@ pub(crate) fn insert_piece<S: Alter>(
 }
 
 /// Deletes the pieces of a file.
-pub(crate) fn delete_pieces<S: Alter>(
-    tx: &mut Transaction<'_, S>,
-    box_name: &str,
-    name: &str,
-) -> Result<(), Error>
-    ensures done { Turns S.Store tx.old tx.new result
+pub(crate) fn delete_pieces<T: Ledger>(tx: &mut T, box_name: &str, name: &str) -> Result<(), Error>
+    ensures done { Turns T.view tx.old tx.new result
         (λ tables. without_pieces tables (placed box_name.now name.now)) }
-    ensures rest { GoesOnInside S.Store tx.old tx.new result }
+    ensures rest { GoesOnInside T.view tx.old tx.new result }
 {
     run(
         tx,
@@ -79,17 +76,17 @@ pub(crate) fn delete_pieces<S: Alter>(
 }
 
 /// Updates the totals of a box.
-pub(crate) fn update_totals<S: Alter>(
-    tx: &mut Transaction<'_, S>,
+pub(crate) fn update_totals<T: Ledger>(
+    tx: &mut T,
     name: &str,
     used: i64,
     count: u32,
 ) -> Result<(), Error>
     ensures done { (v : Version) (tables : Tables) (b : Box) (sum : ℕ) → IsVersion v
-        → Pends v (seen S.Store tx.old) tables → tables.box name.now ≡ Some b → pos sum ≡ used
-        → OnOk result (Pends v (seen S.Store tx.new)
+        → Pends v (seen T.view tx.old) tables → tables.box name.now ≡ Some b → pos sum ≡ used
+        → OnOk result (Pends v (seen T.view tx.new)
         (with_box tables name.now (with_totals sum count b))) }
-    ensures rest { GoesOnInside S.Store tx.old tx.new result }
+    ensures rest { GoesOnInside T.view tx.old tx.new result }
 {
     run(
         tx,
@@ -99,18 +96,18 @@ pub(crate) fn update_totals<S: Alter>(
 }
 
 /// Inserts all pieces of a file that has none.
-pub(crate) fn insert_pieces<S: Alter>(
-    tx: &mut Transaction<'_, S>,
+pub(crate) fn insert_pieces<T: Ledger>(
+    tx: &mut T,
     box_name: &str,
     name: &str,
     bytes: &Pieces,
 ) -> Result<(), Error>
     requires short { length (held bytes.now) ≤ 8388608 }
-    ensures done { (v : Version) (tables : Tables) → IsVersion v → Pends v (seen S.Store tx.old) tables
+    ensures done { (v : Version) (tables : Tables) → IsVersion v → Pends v (seen T.view tx.old) tables
         → NoPieces tables (placed box_name.now name.now)
-        → OnOk result (Pends v (seen S.Store tx.new)
+        → OnOk result (Pends v (seen T.view tx.new)
         (with_bytes tables (placed box_name.now name.now) (held bytes.now))) }
-    ensures rest { GoesOnWhere (IsRunning (seen S.Store tx.old)) ⊤ S.Store tx.old tx.new result }
+    ensures rest { GoesOnWhere (IsRunning (seen T.view tx.old)) ⊤ T.view tx.old tx.new result }
 {
     let mut part = 0;
     while let Some(piece) = bytes.piece(part) {
@@ -121,17 +118,17 @@ pub(crate) fn insert_pieces<S: Alter>(
 }
 
 /// Inserts a file under a name that had none, without its pieces.
-pub(crate) fn insert_file<S: Alter>(
-    tx: &mut Transaction<'_, S>,
+pub(crate) fn insert_file<T: Ledger>(
+    tx: &mut T,
     box_name: &str,
     name: &str,
     receipt: u32,
 ) -> Result<(), Error>
-    ensures done { (v : Version) (tables : Tables) → IsVersion v → Pends v (seen S.Store tx.old) tables
+    ensures done { (v : Version) (tables : Tables) → IsVersion v → Pends v (seen T.view tx.old) tables
         → tables.file (placed box_name.now name.now) ≡ None
-        → OnOk result (Pends v (seen S.Store tx.new)
+        → OnOk result (Pends v (seen T.view tx.new)
         (with_file tables (placed box_name.now name.now) receipt)) }
-    ensures rest { GoesOnInside S.Store tx.old tx.new result }
+    ensures rest { GoesOnInside T.view tx.old tx.new result }
 {
     run(
         tx,
@@ -141,17 +138,17 @@ pub(crate) fn insert_file<S: Alter>(
 }
 
 /// Updates the receipt of an existing file.
-pub(crate) fn update_file<S: Alter>(
-    tx: &mut Transaction<'_, S>,
+pub(crate) fn update_file<T: Ledger>(
+    tx: &mut T,
     box_name: &str,
     name: &str,
     receipt: u32,
 ) -> Result<(), Error>
     ensures done { (v : Version) (tables : Tables) (was : ℕ) → IsVersion v
-        → Pends v (seen S.Store tx.old) tables → tables.file (placed box_name.now name.now) ≡ Some was
-        → OnOk result (Pends v (seen S.Store tx.new)
+        → Pends v (seen T.view tx.old) tables → tables.file (placed box_name.now name.now) ≡ Some was
+        → OnOk result (Pends v (seen T.view tx.new)
         (with_file tables (placed box_name.now name.now) receipt)) }
-    ensures rest { GoesOnInside S.Store tx.old tx.new result }
+    ensures rest { GoesOnInside T.view tx.old tx.new result }
 {
     run(
         tx,
@@ -161,17 +158,17 @@ pub(crate) fn update_file<S: Alter>(
 }
 
 /// Inserts an unrevoked key.
-pub(crate) fn insert_key<S: Alter>(
-    tx: &mut Transaction<'_, S>,
+pub(crate) fn insert_key<T: Ledger>(
+    tx: &mut T,
     id: &str,
     role: Role,
     secret: &[u8],
 ) -> Result<(), Error>
     ensures done { (v : Version) (tables : Tables) → IsVersion v
-        → Pends v (seen S.Store tx.old) tables → tables.key id.now ≡ None
-        → OnOk result (Pends v (seen S.Store tx.new)
+        → Pends v (seen T.view tx.old) tables → tables.key id.now ≡ None
+        → OnOk result (Pends v (seen T.view tx.new)
         (with_key tables id.now (record { role = role; secret = secret.now; revoked = false }))) }
-    ensures rest { GoesOnInside S.Store tx.old tx.new result }
+    ensures rest { GoesOnInside T.view tx.old tx.new result }
 {
     let number: i32 = match role {
         Role::Link => 0,
@@ -185,27 +182,23 @@ pub(crate) fn insert_key<S: Alter>(
 }
 
 /// Revokes a key.
-pub(crate) fn update_revoked<S: Alter>(tx: &mut Transaction<'_, S>, id: &str) -> Result<(), Error>
+pub(crate) fn update_revoked<T: Ledger>(tx: &mut T, id: &str) -> Result<(), Error>
     ensures done { (v : Version) (tables : Tables) (key : Key) → IsVersion v
-        → Pends v (seen S.Store tx.old) tables → tables.key id.now ≡ Some key
-        → OnOk result (Pends v (seen S.Store tx.new)
+        → Pends v (seen T.view tx.old) tables → tables.key id.now ≡ Some key
+        → OnOk result (Pends v (seen T.view tx.new)
         (with_key tables id.now (record key { revoked = true }))) }
-    ensures rest { GoesOnInside S.Store tx.old tx.new result }
+    ensures rest { GoesOnInside T.view tx.old tx.new result }
 {
     run(tx, "UPDATE keys SET revoked = 1 WHERE id = ?1", params![id])
 }
 
 /// Updates the moment at which a box closes for good, in seconds since 1970-01-01T00:00:00Z.
-pub(crate) fn update_closes<S: Alter>(
-    tx: &mut Transaction<'_, S>,
-    name: &str,
-    moment: i64,
-) -> Result<(), Error>
+pub(crate) fn update_closes<T: Ledger>(tx: &mut T, name: &str, moment: i64) -> Result<(), Error>
     ensures done { (v : Version) (tables : Tables) (b : Box) (second : ℕ) → IsVersion v
-        → Pends v (seen S.Store tx.old) tables → tables.box name.now ≡ Some b → pos second ≡ moment
-        → OnOk result (Pends v (seen S.Store tx.new)
+        → Pends v (seen T.view tx.old) tables → tables.box name.now ≡ Some b → pos second ≡ moment
+        → OnOk result (Pends v (seen T.view tx.new)
         (with_box tables name.now (closing_at second b))) }
-    ensures rest { GoesOnInside S.Store tx.old tx.new result }
+    ensures rest { GoesOnInside T.view tx.old tx.new result }
 {
     run(
         tx,
@@ -215,14 +208,10 @@ pub(crate) fn update_closes<S: Alter>(
 }
 
 /// Deletes the row of a file. Its pieces were deleted before.
-pub(crate) fn delete_file<S: Alter>(
-    tx: &mut Transaction<'_, S>,
-    in_box: &str,
-    name: &str,
-) -> Result<(), Error>
-    ensures done { Turns S.Store tx.old tx.new result
+pub(crate) fn delete_file<T: Ledger>(tx: &mut T, in_box: &str, name: &str) -> Result<(), Error>
+    ensures done { Turns T.view tx.old tx.new result
         (λ tables. without_file tables (placed in_box.now name.now)) }
-    ensures rest { GoesOnInside S.Store tx.old tx.new result }
+    ensures rest { GoesOnInside T.view tx.old tx.new result }
 {
     run(
         tx,
@@ -232,16 +221,12 @@ pub(crate) fn delete_file<S: Alter>(
 }
 
 /// Inserts a box that a key is limited to.
-pub(crate) fn insert_limit<S: Alter>(
-    tx: &mut Transaction<'_, S>,
-    id: &str,
-    in_box: &str,
-) -> Result<(), Error>
-    ensures done { (tables : Tables) → Pends v2 (seen S.Store tx.old) tables
+pub(crate) fn insert_limit<T: Ledger>(tx: &mut T, id: &str, in_box: &str) -> Result<(), Error>
+    ensures done { (tables : Tables) → Pends v2 (seen T.view tx.old) tables
         → tables.limit (record { key = id.now; box = in_box.now }) ≡ None
-        → OnOk result (Pends v2 (seen S.Store tx.new)
+        → OnOk result (Pends v2 (seen T.view tx.new)
         (with_limit tables (record { key = id.now; box = in_box.now }))) }
-    ensures rest { GoesOnInside S.Store tx.old tx.new result }
+    ensures rest { GoesOnInside T.view tx.old tx.new result }
 {
     run(
         tx,
@@ -251,13 +236,10 @@ pub(crate) fn insert_limit<S: Alter>(
 }
 
 /// Updates how many seconds early a link may begin.
-pub(crate) fn update_allowance<S: Alter>(
-    tx: &mut Transaction<'_, S>,
-    seconds: u32,
-) -> Result<(), Error>
-    ensures done { (tables : Tables) → Pends v2 (seen S.Store tx.old) tables
-        → OnOk result (Pends v2 (seen S.Store tx.new) (with_allowance tables seconds)) }
-    ensures rest { GoesOnInside S.Store tx.old tx.new result }
+pub(crate) fn update_allowance<T: Ledger>(tx: &mut T, seconds: u32) -> Result<(), Error>
+    ensures done { (tables : Tables) → Pends v2 (seen T.view tx.old) tables
+        → OnOk result (Pends v2 (seen T.view tx.new) (with_allowance tables seconds)) }
+    ensures rest { GoesOnInside T.view tx.old tx.new result }
 {
     run(tx, "UPDATE rules SET allowance = ?1", params![seconds])
 }

@@ -12,10 +12,11 @@ ghost use Rattle.sqltables.specs.Inside.{seen, GoesOnBegun};
 ghost use Rattle.sqltables.specs.Means.{Pends};
 ghost use Rattle.sqlkeeper.specs.Asking.{AnswersOf, LeavesOffice};
 
-use sqlite::{Alter, Connection, Error, ErrorCode, Transaction};
+use sqlite::{Alter, Connection, Error, ErrorCode};
+use sqltables::calls::Ledger;
 
 /// A question about an office.
-pub(crate) trait Question<S: Alter> {
+pub(crate) trait Question {
     /// Its answer.
     type Answer: Drop;
 
@@ -23,17 +24,17 @@ pub(crate) trait Question<S: Alter> {
     ghost says: { Self → State → Self.Answer → Type 0 };
 
     /// Puts the question inside a transaction. Nothing is written.
-    fn put(&self, tx: &mut Transaction<'_, S>) -> Result<Self::Answer, Error>
-        ensures found { (s : State) → Pends v2 (seen S.Store tx.old) (tables_of s) → IsSound s
-            → IsTrue (seen S.Store tx.old).in_transaction → HasCleanDisk (seen S.Store tx.new)
+    fn put<T: Ledger>(&self, tx: &mut T) -> Result<Self::Answer, Error>
+        ensures found { (s : State) → Pends v2 (seen T.view tx.old) (tables_of s) → IsSound s
+            → IsTrue (seen T.view tx.old).in_transaction → HasCleanDisk (seen T.view tx.new)
             → IfOk result (says self.now s) }
-        ensures still { (s : State) → Pends v2 (seen S.Store tx.old) (tables_of s)
-            → OnOk result (Pends v2 (seen S.Store tx.new) (tables_of s)) }
-        ensures rest { GoesOnBegun S.Store tx.old tx.new result };
+        ensures still { (s : State) → Pends v2 (seen T.view tx.old) (tables_of s)
+            → OnOk result (Pends v2 (seen T.view tx.new) (tables_of s)) }
+        ensures rest { GoesOnBegun T.view tx.old tx.new result };
 }
 
 /// The answer to this question.
-pub(crate) fn ask<S: Alter, Q: Question<S>>(
+pub(crate) fn ask<S: Alter, Q: Question>(
     conn: &mut Connection<S>,
     question: &Q,
 ) -> Result<Q::Answer, Error>

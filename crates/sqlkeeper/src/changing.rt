@@ -15,24 +15,21 @@ use boxes::{Change, Command, NewFile};
 use sqlchanges::changes::{
     add_box, add_key, close_box, limit_key, revoke_key, set_allowance, take_rows, write_file,
 };
-use sqlite::{Alter, Error, Transaction};
+use sqlite::Error;
 use sqlquestions::questions::totals;
 use sqlquestions::standing::standing_size;
+use sqltables::calls::Ledger;
 use sqltables::reading::text_of;
 use sqltables::staging::Pieces;
 
 /// Sets a file to these bytes, and adds its receipt.
-fn set_file<S: Alter>(
-    tx: &mut Transaction<'_, S>,
-    file: &NewFile<'_>,
-    bytes: &Pieces,
-) -> Result<(), Error>
+fn set_file<T: Ledger>(tx: &mut T, file: &NewFile<'_>, bytes: &Pieces) -> Result<(), Error>
     ensures done { (v : Version) (s after : State) → IsVersion v
-        → Pends v (seen S.Store tx.old) (tables_of s) → IsSound s
+        → Pends v (seen T.view tx.old) (tables_of s) → IsSound s
         → IsFileSet s file.now (held bytes.now) after
-        → IsTrue (seen S.Store tx.old).in_transaction
-        → OnOk result (Pends v (seen S.Store tx.new) (tables_of after)) }
-    ensures rest { GoesOnBegun S.Store tx.old tx.new result }
+        → IsTrue (seen T.view tx.old).in_transaction
+        → OnOk result (Pends v (seen T.view tx.new) (tables_of after)) }
+    ensures rest { GoesOnBegun T.view tx.old tx.new result }
 {
     let in_box = text_of(file.in_box)?;
     let name = text_of(file.name)?;
@@ -42,13 +39,13 @@ fn set_file<S: Alter>(
 }
 
 /// Deletes a file. Its receipt stays.
-fn drop_file<S: Alter>(tx: &mut Transaction<'_, S>, in_box: &[u8], name: &[u8]) -> Result<(), Error>
+fn drop_file<T: Ledger>(tx: &mut T, in_box: &[u8], name: &[u8]) -> Result<(), Error>
     ensures done { (v : Version) (s after : State) → IsVersion v
-        → Pends v (seen S.Store tx.old) (tables_of s) → IsSound s
+        → Pends v (seen T.view tx.old) (tables_of s) → IsSound s
         → IsObeyed s (DropFile (placed in_box.now name.now)) after
-        → IsTrue (seen S.Store tx.old).in_transaction
-        → OnOk result (Pends v (seen S.Store tx.new) (tables_of after)) }
-    ensures rest { GoesOnBegun S.Store tx.old tx.new result }
+        → IsTrue (seen T.view tx.old).in_transaction
+        → OnOk result (Pends v (seen T.view tx.new) (tables_of after)) }
+    ensures rest { GoesOnBegun T.view tx.old tx.new result }
 {
     let in_box = text_of(in_box)?;
     let name = text_of(name)?;
@@ -60,12 +57,12 @@ fn drop_file<S: Alter>(tx: &mut Transaction<'_, S>, in_box: &[u8], name: &[u8]) 
 }
 
 /// Carries out a command of the desk.
-fn obey<S: Alter>(tx: &mut Transaction<'_, S>, command: &Command<'_>) -> Result<(), Error>
-    ensures done { (s after : State) → Pends v2 (seen S.Store tx.old) (tables_of s) → IsSound s
+fn obey<T: Ledger>(tx: &mut T, command: &Command<'_>) -> Result<(), Error>
+    ensures done { (s after : State) → Pends v2 (seen T.view tx.old) (tables_of s) → IsSound s
         → IsObeyed s (command_of command.now) after
-        → IsTrue (seen S.Store tx.old).in_transaction
-        → OnOk result (Pends v2 (seen S.Store tx.new) (tables_of after)) }
-    ensures rest { GoesOnBegun S.Store tx.old tx.new result }
+        → IsTrue (seen T.view tx.old).in_transaction
+        → OnOk result (Pends v2 (seen T.view tx.new) (tables_of after)) }
+    ensures rest { GoesOnBegun T.view tx.old tx.new result }
 {
     match command {
         Command::AddKey { id, role, secret } => add_key(tx, id, *role, secret),
@@ -79,15 +76,15 @@ fn obey<S: Alter>(tx: &mut Transaction<'_, S>, command: &Command<'_>) -> Result<
 }
 
 /// Writes the change, given the staged bytes.
-pub(crate) fn write_change<S: Alter>(
-    tx: &mut Transaction<'_, S>,
+pub(crate) fn write_change<T: Ledger>(
+    tx: &mut T,
     change: &Change<'_>,
     staged: &Pieces,
 ) -> Result<(), Error>
-    ensures done { (s after : State) → Pends v2 (seen S.Store tx.old) (tables_of s) → IsSound s
-        → IsChangeOf (λ bytes. held staged.now ≡ bytes) s change.now after → IsTrue (seen S.Store tx.old).in_transaction
-        → OnOk result (Pends v2 (seen S.Store tx.new) (tables_of after)) }
-    ensures rest { GoesOnBegun S.Store tx.old tx.new result }
+    ensures done { (s after : State) → Pends v2 (seen T.view tx.old) (tables_of s) → IsSound s
+        → IsChangeOf (λ bytes. held staged.now ≡ bytes) s change.now after → IsTrue (seen T.view tx.old).in_transaction
+        → OnOk result (Pends v2 (seen T.view tx.new) (tables_of after)) }
+    ensures rest { GoesOnBegun T.view tx.old tx.new result }
 {
     match change {
         Change::SetFile(file) => set_file(tx, file, staged),

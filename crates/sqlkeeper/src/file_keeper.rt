@@ -416,7 +416,7 @@ impl<S: Alter> SqlKeeper<S> {
     ghost use Rattle.boxes.specs.Keeping.{Answers};
 
     // The file's answer to this question. An error is counted.
-    fn answer<Q: Question<S>>(&mut self, question: &Q) -> Result<Q::Answer, KeepFault>
+    fn answer<Q: Question>(&mut self, question: &Q) -> Result<Q::Answer, KeepFault>
         ensures value { Answers ⟦<SqlKeeper<S> as Keeper>⟧.means ⟦<SqlKeeper<S> as Keeper>⟧.is_honest
             self.old self.new result (Q.says question.now) }
         ensures rest { StaysBy ⟦<SqlKeeper<S> as Keeper>⟧ self.old self.new result }

@@ -4,8 +4,9 @@ ghost use Rattle.sigtext.specs.Bytes.{bytes_cmp};
 ghost use Rattle.boxes.specs.Next.{text_in, IsNext, IsKey, IsBox, IsFileIn, IsLimit};
 
 use crate::asking::Question;
-use sqlite::{Alter, Error, Transaction};
+use sqlite::Error;
 use sqlquestions::following;
+use sqltables::calls::Ledger;
 
 /// The id of the first key after this text.
 #[derive(Drop)]
@@ -13,12 +14,12 @@ pub(crate) struct KeyAfter<'q> {
     pub(crate) after: &'q str,
 }
 
-impl<'q, S: Alter> Question<S> for KeyAfter<'q> {
+impl<'q> Question for KeyAfter<'q> {
     type Answer = Option<Vec<u8>>;
 
     ghost says = { λ q s found. IsNext bytes_cmp (IsKey s) q.after.now (text_in found) };
 
-    fn put(&self, tx: &mut Transaction<'_, S>) -> Result<Option<Vec<u8>>, Error> {
+    fn put<T: Ledger>(&self, tx: &mut T) -> Result<Option<Vec<u8>>, Error> {
         following::key_after(tx, self.after)
     }
 }
@@ -29,12 +30,12 @@ pub(crate) struct BoxAfter<'q> {
     pub(crate) after: &'q str,
 }
 
-impl<'q, S: Alter> Question<S> for BoxAfter<'q> {
+impl<'q> Question for BoxAfter<'q> {
     type Answer = Option<Vec<u8>>;
 
     ghost says = { λ q s found. IsNext bytes_cmp (IsBox s) q.after.now (text_in found) };
 
-    fn put(&self, tx: &mut Transaction<'_, S>) -> Result<Option<Vec<u8>>, Error> {
+    fn put<T: Ledger>(&self, tx: &mut T) -> Result<Option<Vec<u8>>, Error> {
         following::box_after(tx, self.after)
     }
 }
@@ -46,12 +47,12 @@ pub(crate) struct FileAfter<'q> {
     pub(crate) after: &'q str,
 }
 
-impl<'q, S: Alter> Question<S> for FileAfter<'q> {
+impl<'q> Question for FileAfter<'q> {
     type Answer = Option<Vec<u8>>;
 
     ghost says = { λ q s found. IsNext bytes_cmp (IsFileIn s q.in_box.now) q.after.now (text_in found) };
 
-    fn put(&self, tx: &mut Transaction<'_, S>) -> Result<Option<Vec<u8>>, Error> {
+    fn put<T: Ledger>(&self, tx: &mut T) -> Result<Option<Vec<u8>>, Error> {
         following::file_after(tx, self.in_box, self.after)
     }
 }
@@ -63,12 +64,12 @@ pub(crate) struct LimitAfter<'q> {
     pub(crate) after: &'q str,
 }
 
-impl<'q, S: Alter> Question<S> for LimitAfter<'q> {
+impl<'q> Question for LimitAfter<'q> {
     type Answer = Option<Vec<u8>>;
 
     ghost says = { λ q s found. IsNext bytes_cmp (IsLimit s q.id.now) q.after.now (text_in found) };
 
-    fn put(&self, tx: &mut Transaction<'_, S>) -> Result<Option<Vec<u8>>, Error> {
+    fn put<T: Ledger>(&self, tx: &mut T) -> Result<Option<Vec<u8>>, Error> {
         following::limit_after(tx, self.id, self.after)
     }
 }

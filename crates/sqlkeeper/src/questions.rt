@@ -12,8 +12,9 @@ ghost use Rattle.sqltables.specs.Staging.{held};
 
 use crate::asking::Question;
 use boxes::{BoxRow, FileRow, KeyRow, OfficeRow, ReceiptRow, Totals};
-use sqlite::{Alter, Error, Transaction};
+use sqlite::Error;
 use sqlquestions::{questions, standing};
+use sqltables::calls::Ledger;
 use sqltables::staging::Pieces;
 use std::alloc::Global;
 
@@ -21,12 +22,12 @@ use std::alloc::Global;
 #[derive(Drop)]
 pub(crate) struct Settings;
 
-impl<S: Alter> Question<S> for Settings {
+impl Question for Settings {
     type Answer = OfficeRow;
 
     ghost says = { λ q s office. IsOfficeOf s office };
 
-    fn put(&self, tx: &mut Transaction<'_, S>) -> Result<OfficeRow, Error> {
+    fn put<T: Ledger>(&self, tx: &mut T) -> Result<OfficeRow, Error> {
         let east = questions::east(tx)?;
         let allowance = questions::allowance(tx)?;
         Ok(OfficeRow { east, allowance })
@@ -40,12 +41,12 @@ pub(crate) struct MayUse<'q> {
     pub(crate) in_box: &'q [u8],
 }
 
-impl<'q, S: Alter> Question<S> for MayUse<'q> {
+impl<'q> Question for MayUse<'q> {
     type Answer = bool;
 
     ghost says = { λ q s may. IsTrue may ↔ KeyMayUse s q.id.now q.in_box.now };
 
-    fn put(&self, tx: &mut Transaction<'_, S>) -> Result<bool, Error> {
+    fn put<T: Ledger>(&self, tx: &mut T) -> Result<bool, Error> {
         questions::may_use(tx, self.id, self.in_box)
     }
 }
@@ -57,12 +58,12 @@ pub(crate) struct HasLimit<'q> {
     pub(crate) in_box: &'q [u8],
 }
 
-impl<'q, S: Alter> Question<S> for HasLimit<'q> {
+impl<'q> Question for HasLimit<'q> {
     type Answer = bool;
 
     ghost says = { λ q s has. IsTrue has ↔ IsLimitedTo s q.id.now q.in_box.now };
 
-    fn put(&self, tx: &mut Transaction<'_, S>) -> Result<bool, Error> {
+    fn put<T: Ledger>(&self, tx: &mut T) -> Result<bool, Error> {
         questions::has_limit(tx, self.id, self.in_box)
     }
 }
@@ -73,12 +74,12 @@ pub(crate) struct KeyOf<'q> {
     pub(crate) id: &'q str,
 }
 
-impl<'q, S: Alter> Question<S> for KeyOf<'q> {
+impl<'q> Question for KeyOf<'q> {
     type Answer = Option<KeyRow>;
 
     ghost says = { λ q s key. option_map key_of key ≡ get s.keys q.id.now };
 
-    fn put(&self, tx: &mut Transaction<'_, S>) -> Result<Option<KeyRow>, Error> {
+    fn put<T: Ledger>(&self, tx: &mut T) -> Result<Option<KeyRow>, Error> {
         questions::key(tx, self.id)
     }
 }
@@ -89,12 +90,12 @@ pub(crate) struct BoxOf<'q> {
     pub(crate) name: &'q str,
 }
 
-impl<'q, S: Alter> Question<S> for BoxOf<'q> {
+impl<'q> Question for BoxOf<'q> {
     type Answer = Option<BoxRow>;
 
     ghost says = { λ q s row. option_map settings_of row ≡ get s.boxes q.name.now };
 
-    fn put(&self, tx: &mut Transaction<'_, S>) -> Result<Option<BoxRow>, Error> {
+    fn put<T: Ledger>(&self, tx: &mut T) -> Result<Option<BoxRow>, Error> {
         questions::box_row(tx, self.name)
     }
 }
@@ -107,12 +108,12 @@ pub(crate) struct FileOf<'q> {
     pub(crate) name: &'q str,
 }
 
-impl<'q, S: Alter> Question<S> for FileOf<'q> {
+impl<'q> Question for FileOf<'q> {
     type Answer = Option<FileRow>;
 
     ghost says = { λ q s. IsFileAt s (placed q.in_box.now q.name.now) };
 
-    fn put(&self, tx: &mut Transaction<'_, S>) -> Result<Option<FileRow>, Error> {
+    fn put<T: Ledger>(&self, tx: &mut T) -> Result<Option<FileRow>, Error> {
         standing::file(tx, self.alloc, self.in_box, self.name)
     }
 }
@@ -124,12 +125,12 @@ pub(crate) struct ReceiptOf<'q> {
     pub(crate) name: &'q str,
 }
 
-impl<'q, S: Alter> Question<S> for ReceiptOf<'q> {
+impl<'q> Question for ReceiptOf<'q> {
     type Answer = Option<ReceiptRow>;
 
     ghost says = { λ q s. IsReceiptAt s (placed q.in_box.now q.name.now) };
 
-    fn put(&self, tx: &mut Transaction<'_, S>) -> Result<Option<ReceiptRow>, Error> {
+    fn put<T: Ledger>(&self, tx: &mut T) -> Result<Option<ReceiptRow>, Error> {
         standing::standing_receipt(tx, self.in_box, self.name)
     }
 }
@@ -142,12 +143,12 @@ pub(crate) struct HasBytes<'q> {
     pub(crate) bytes: &'q Pieces,
 }
 
-impl<'q, S: Alter> Question<S> for HasBytes<'q> {
+impl<'q> Question for HasBytes<'q> {
     type Answer = bool;
 
     ghost says = { λ q s has. IsTrue has ↔ HasTheseBytes s (placed q.in_box.now q.name.now) (held q.bytes.now) };
 
-    fn put(&self, tx: &mut Transaction<'_, S>) -> Result<bool, Error> {
+    fn put<T: Ledger>(&self, tx: &mut T) -> Result<bool, Error> {
         standing::has_bytes(tx, self.in_box, self.name, self.bytes)
     }
 }
@@ -158,12 +159,12 @@ pub(crate) struct TotalsOf<'q> {
     pub(crate) name: &'q str,
 }
 
-impl<'q, S: Alter> Question<S> for TotalsOf<'q> {
+impl<'q> Question for TotalsOf<'q> {
     type Answer = Totals;
 
     ghost says = { λ q s. AreTotals s q.name.now };
 
-    fn put(&self, tx: &mut Transaction<'_, S>) -> Result<Totals, Error> {
+    fn put<T: Ledger>(&self, tx: &mut T) -> Result<Totals, Error> {
         questions::totals(tx, self.name)
     }
 }
@@ -174,12 +175,12 @@ pub(crate) struct Clerks {
     pub(crate) alloc: Global,
 }
 
-impl<S: Alter> Question<S> for Clerks {
+impl Question for Clerks {
     type Answer = u64;
 
     ghost says = { λ q s count. count ≡ clerks s };
 
-    fn put(&self, tx: &mut Transaction<'_, S>) -> Result<u64, Error> {
+    fn put<T: Ledger>(&self, tx: &mut T) -> Result<u64, Error> {
         questions::clerks(tx, self.alloc)
     }
 }
@@ -188,12 +189,12 @@ impl<S: Alter> Question<S> for Clerks {
 #[derive(Drop)]
 pub(crate) struct NextNumber;
 
-impl<S: Alter> Question<S> for NextNumber {
+impl Question for NextNumber {
     type Answer = u64;
 
     ghost says = { λ q s number. number ≡ length s.receipts + 1 };
 
-    fn put(&self, tx: &mut Transaction<'_, S>) -> Result<u64, Error> {
+    fn put<T: Ledger>(&self, tx: &mut T) -> Result<u64, Error> {
         Ok(u64::from(questions::next_number(tx)?))
     }
 }
@@ -206,12 +207,12 @@ pub(crate) struct Receipts {
     pub(crate) most: usize,
 }
 
-impl<S: Alter> Question<S> for Receipts {
+impl Question for Receipts {
     type Answer = Vec<ReceiptRow>;
 
     ghost says = { λ q s rows. map numbered_receipt rows.items ≡ receipts_from s q.from q.most };
 
-    fn put(&self, tx: &mut Transaction<'_, S>) -> Result<Vec<ReceiptRow>, Error> {
+    fn put<T: Ledger>(&self, tx: &mut T) -> Result<Vec<ReceiptRow>, Error> {
         // This detects a store that has shut itself down, even if no receipt is requested.
         questions::east(tx)?;
         questions::receipts(tx, self.alloc, self.from, self.most)

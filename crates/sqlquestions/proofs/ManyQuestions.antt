@@ -2,10 +2,8 @@
 use Rattle.std.proofs.Common.{Ok, ◌≡◌, ℕ, ◌+◌, ◌≤◌, zero, suc, List, [], ◌∷◌, ◌++◌, map, take, drop, length, slice_get, Option, None, Some, option_map, IsTrue, arith, refl, sym, ap, subst, ◌∙◌}
 use Rattle.std.proofs.lemmas.List.{take_all, map-append, length-drop}
 use Rattle.std.specs.Prelude.{Result}
-use Rattle.sqlite_trees.specs.declared.store.Store.{Ghosts}
 use Rattle.sqlite.specs.declared.error.Error.{Error}
-use Rattle.sqlite.specs.declared.transaction.Transaction.{Transaction}
-use Rattle.sqltables.specs.Inside.{seen, GoesOnBegun, GoesOnWhere}
+use Rattle.sqltables.specs.Inside.{View, seen, GoesOnBegun, GoesOnWhere}
 use Rattle.sqlite.specs.State.{State, HasCleanDisk, KeepsCommit, Survives}
 use Rattle.boxes.specs.State.{Receipt}
 use Rattle.std.specs.List.{AllByRecursion}
@@ -28,11 +26,11 @@ pub record Unmoved (entry now : State) : Type 0 where
   pub still : (v : Version) (tables : Tables) → IsVersion v → Pends v entry tables → Pends v now tables
 
 -- the effect of the queries so far
-pub unmoved_goes : {S : Type 0} {g : Ghosts S} {old now : Transaction S} → now.conn.ghost_name ≡ old.conn.ghost_name → Unmoved (seen g old) (seen g now) → {T : Type 0} (value : T) → GoesOnWhere (IsRunning (seen g old)) (IsTrue (seen g old).in_transaction) g old now (Ok value)
+pub unmoved_goes : {S : Type 0} {g : S → View} {old now : S} → (g now).name ≡ (g old).name → Unmoved (seen g old) (seen g now) → {T : Type 0} (value : T) → GoesOnWhere (IsRunning (seen g old)) (IsTrue (seen g old).in_transaction) g old now (Ok value)
 unmoved_goes same unmoved value = record { same_reference = same; running = unmoved.running; uncommitted = unmoved.uncommitted; survives = unmoved.survives }
 
 -- the effect of the queries so far, and of the next
-pub unmoved_and : {S : Type 0} {g : Ghosts S} {old mid new : Transaction S} {T : Type 0} {result : Result T Error} → mid.conn.ghost_name ≡ old.conn.ghost_name → Unmoved (seen g old) (seen g mid) → GoesOnBegun g mid new result
+pub unmoved_and : {S : Type 0} {g : S → View} {old mid new : S} {T : Type 0} {result : Result T Error} → (g mid).name ≡ (g old).name → Unmoved (seen g old) (seen g mid) → GoesOnBegun g mid new result
     → GoesOnWhere (IsRunning (seen g old)) (IsTrue (seen g old).in_transaction) g old new result
 unmoved_and {g = g} {old = old} {mid = mid} {new = new} same unmoved next =
     let early : HasCleanDisk (seen g new) → HasCleanDisk (seen g mid) = λ clean. omega (arith, clean, next.survives.clean) in

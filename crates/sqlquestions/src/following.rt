@@ -15,22 +15,23 @@ ghost use Rattle.sqlquestions.specs.Following.{IsFirstBehind, ShowsFirstText, by
 
 use crate::questions::select_row;
 use sqlite::types::ValueRef;
-use sqlite::{Alter, Error, Transaction, params};
+use sqlite::{Error, params};
+use sqltables::calls::Ledger;
 use sqltables::reading::read_text;
 
 /// The text in the first column of the last row that a query of the office's own tables shows, if it shows any row.
-fn select_text<S: Alter>(
-    tx: &mut Transaction<'_, S>,
+fn select_text<T: Ledger>(
+    tx: &mut T,
     sql: &str,
     params: &[ValueRef<'_>],
 ) -> Result<Option<Vec<u8>>, Error>
-    ensures shown { HasCleanDisk (seen S.Store tx.new)
-        → IfOk result (λ text. ShowsFirstText sql.now (bound params.now) (seen S.Store tx.old)
-        (seen S.Store tx.new) (bytes_in text)) }
+    ensures shown { HasCleanDisk (seen T.view tx.new)
+        → IfOk result (λ text. ShowsFirstText sql.now (bound params.now) (seen T.view tx.old)
+        (seen T.view tx.new) (bytes_in text)) }
     ensures still { (v : Version) (tables : Tables) → IsPlain (understood v.schema sql.now)
-        → Pends v (seen S.Store tx.old) tables
-        → OnOk result (Pends v (seen S.Store tx.new) tables) }
-    ensures rest { GoesOnBegun S.Store tx.old tx.new result }
+        → Pends v (seen T.view tx.old) tables
+        → OnOk result (Pends v (seen T.view tx.new) tables) }
+    ensures rest { GoesOnBegun T.view tx.old tx.new result }
 {
     let Some(row) = select_row(tx, sql, params)? else {
         return Ok(None);
@@ -39,14 +40,11 @@ fn select_text<S: Alter>(
 }
 
 /// The id of the first key after this text.
-pub fn key_after<S: Alter>(
-    tx: &mut Transaction<'_, S>,
-    after: &str,
-) -> Result<Option<Vec<u8>>, Error>
-    ensures found { FindsIn S.Store tx.old tx.new result
+pub fn key_after<T: Ledger>(tx: &mut T, after: &str) -> Result<Option<Vec<u8>>, Error>
+    ensures found { FindsIn T.view tx.old tx.new result
         (λ tables found. IsFirstBehind (λ id. IsSome (tables.key id)) after.now (bytes_in found)) }
-    ensures still { Still S.Store tx.old tx.new result }
-    ensures rest { GoesOnBegun S.Store tx.old tx.new result }
+    ensures still { Still T.view tx.old tx.new result }
+    ensures rest { GoesOnBegun T.view tx.old tx.new result }
 {
     select_text(
         tx,
@@ -56,15 +54,12 @@ pub fn key_after<S: Alter>(
 }
 
 /// The name of the first box after this text.
-pub fn box_after<S: Alter>(
-    tx: &mut Transaction<'_, S>,
-    after: &str,
-) -> Result<Option<Vec<u8>>, Error>
-    ensures found { FindsIn S.Store tx.old tx.new result
+pub fn box_after<T: Ledger>(tx: &mut T, after: &str) -> Result<Option<Vec<u8>>, Error>
+    ensures found { FindsIn T.view tx.old tx.new result
         (λ tables found. IsFirstBehind (λ name. IsSome (tables.box name)) after.now
         (bytes_in found)) }
-    ensures still { Still S.Store tx.old tx.new result }
-    ensures rest { GoesOnBegun S.Store tx.old tx.new result }
+    ensures still { Still T.view tx.old tx.new result }
+    ensures rest { GoesOnBegun T.view tx.old tx.new result }
 {
     select_text(
         tx,
@@ -74,16 +69,16 @@ pub fn box_after<S: Alter>(
 }
 
 /// The name of the first file of this box after this text.
-pub fn file_after<S: Alter>(
-    tx: &mut Transaction<'_, S>,
+pub fn file_after<T: Ledger>(
+    tx: &mut T,
     in_box: &str,
     after: &str,
 ) -> Result<Option<Vec<u8>>, Error>
-    ensures found { FindsIn S.Store tx.old tx.new result
+    ensures found { FindsIn T.view tx.old tx.new result
         (λ tables found. IsFirstBehind (λ name. IsSome (tables.file (placed in_box.now name)))
         after.now (bytes_in found)) }
-    ensures still { Still S.Store tx.old tx.new result }
-    ensures rest { GoesOnBegun S.Store tx.old tx.new result }
+    ensures still { Still T.view tx.old tx.new result }
+    ensures rest { GoesOnBegun T.view tx.old tx.new result }
 {
     select_text(
         tx,
@@ -93,15 +88,11 @@ pub fn file_after<S: Alter>(
 }
 
 /// The name of the first box after this text among those that the key of this id is limited to.
-pub fn limit_after<S: Alter>(
-    tx: &mut Transaction<'_, S>,
-    id: &str,
-    after: &str,
-) -> Result<Option<Vec<u8>>, Error>
-    ensures found { FindsInSecond S.Store tx.old tx.new result
+pub fn limit_after<T: Ledger>(tx: &mut T, id: &str, after: &str) -> Result<Option<Vec<u8>>, Error>
+    ensures found { FindsInSecond T.view tx.old tx.new result
         (λ tables found. IsFirstBehind (HasLimit tables id.now) after.now (bytes_in found)) }
-    ensures still { StillSecond S.Store tx.old tx.new result }
-    ensures rest { GoesOnBegun S.Store tx.old tx.new result }
+    ensures still { StillSecond T.view tx.old tx.new result }
+    ensures rest { GoesOnBegun T.view tx.old tx.new result }
 {
     select_text(
         tx,

@@ -21,37 +21,37 @@ ghost use Rattle.sqltables.specs.Questions.{last_rows, ShowsRow, shown_office, s
 use boxes::{BoxRow, KeyRow, ReceiptRow, Totals};
 use sigv4::Allowance;
 use sqlite::types::ValueRef;
-use sqlite::{Alter, Error, ErrorCode, Row, Transaction, params};
-use sqltables::calls::query;
+use sqlite::{Error, ErrorCode, Row, params};
+use sqltables::calls::Ledger;
 use sqltables::pieces::read_file;
 use sqltables::reading::{read_box, read_key, read_receipt, read_text};
 use std::alloc::Global;
 use std::collections::BTreeSet;
 
 /// The last row that a query of the office's own tables shows, if it shows any.
-pub(crate) fn select_row<S: Alter>(
-    tx: &mut Transaction<'_, S>,
+pub(crate) fn select_row<T: Ledger>(
+    tx: &mut T,
     sql: &str,
     params: &[ValueRef<'_>],
 ) -> Result<Option<Row>, Error>
-    ensures shown { HasCleanDisk (seen S.Store tx.new)
-        → IfOk result (ShowsRow sql.now (bound params.now) (seen S.Store tx.old)
-        (seen S.Store tx.new)) }
+    ensures shown { HasCleanDisk (seen T.view tx.new)
+        → IfOk result (ShowsRow sql.now (bound params.now) (seen T.view tx.old)
+        (seen T.view tx.new)) }
     ensures still { (v : Version) (tables : Tables) → IsPlain (understood v.schema sql.now)
-        → Pends v (seen S.Store tx.old) tables
-        → OnOk result (Pends v (seen S.Store tx.new) tables) }
-    ensures rest { GoesOnBegun S.Store tx.old tx.new result }
+        → Pends v (seen T.view tx.old) tables
+        → OnOk result (Pends v (seen T.view tx.new) tables) }
+    ensures rest { GoesOnBegun T.view tx.old tx.new result }
 {
-    let mut rows = query(tx, sql, params)?;
+    let mut rows = tx.query(sql, params)?;
     Ok(rows.pop())
 }
 
 /// The row of a key: its role, its secret and whether it is revoked.
-fn select_key<S: Alter>(tx: &mut Transaction<'_, S>, id: &str) -> Result<Option<Row>, Error>
-    ensures found { FindsIn S.Store tx.old tx.new result
+fn select_key<T: Ledger>(tx: &mut T, id: &str) -> Result<Option<Row>, Error>
+    ensures found { FindsIn T.view tx.old tx.new result
         (λ tables row. row ≡ option_map shown_key (tables.key id.now)) }
-    ensures still { Still S.Store tx.old tx.new result }
-    ensures rest { GoesOnBegun S.Store tx.old tx.new result }
+    ensures still { Still T.view tx.old tx.new result }
+    ensures rest { GoesOnBegun T.view tx.old tx.new result }
 {
     select_row(
         tx,
@@ -61,22 +61,22 @@ fn select_key<S: Alter>(tx: &mut Transaction<'_, S>, id: &str) -> Result<Option<
 }
 
 /// The office's own row: its version and its offset.
-fn select_office<S: Alter>(tx: &mut Transaction<'_, S>) -> Result<Option<Row>, Error>
-    ensures found { (v : Version) (tables : Tables) → IsVersion v → Pends v (seen S.Store tx.old) tables
-        → IsTrue (seen S.Store tx.old).in_transaction → HasCleanDisk (seen S.Store tx.new)
+fn select_office<T: Ledger>(tx: &mut T) -> Result<Option<Row>, Error>
+    ensures found { (v : Version) (tables : Tables) → IsVersion v → Pends v (seen T.view tx.old) tables
+        → IsTrue (seen T.view tx.old).in_transaction → HasCleanDisk (seen T.view tx.new)
         → IfOk result (λ row. row ≡ Some (shown_office v.number tables.offset)) }
-    ensures still { Still S.Store tx.old tx.new result }
-    ensures rest { GoesOnBegun S.Store tx.old tx.new result }
+    ensures still { Still T.view tx.old tx.new result }
+    ensures rest { GoesOnBegun T.view tx.old tx.new result }
 {
     select_row(tx, "SELECT version, east FROM office", &[])
 }
 
 /// The row of a box, without its name.
-fn select_box<S: Alter>(tx: &mut Transaction<'_, S>, name: &str) -> Result<Option<Row>, Error>
-    ensures found { FindsIn S.Store tx.old tx.new result
+fn select_box<T: Ledger>(tx: &mut T, name: &str) -> Result<Option<Row>, Error>
+    ensures found { FindsIn T.view tx.old tx.new result
         (λ tables row. row ≡ option_map shown_box (tables.box name.now)) }
-    ensures still { Still S.Store tx.old tx.new result }
-    ensures rest { GoesOnBegun S.Store tx.old tx.new result }
+    ensures still { Still T.view tx.old tx.new result }
+    ensures rest { GoesOnBegun T.view tx.old tx.new result }
 {
     select_row(
         tx,
@@ -86,11 +86,11 @@ fn select_box<S: Alter>(tx: &mut Transaction<'_, S>, name: &str) -> Result<Optio
 }
 
 /// The totals in the row of a box.
-fn select_totals<S: Alter>(tx: &mut Transaction<'_, S>, name: &str) -> Result<Option<Row>, Error>
-    ensures found { FindsIn S.Store tx.old tx.new result
+fn select_totals<T: Ledger>(tx: &mut T, name: &str) -> Result<Option<Row>, Error>
+    ensures found { FindsIn T.view tx.old tx.new result
         (λ tables row. row ≡ option_map shown_totals (tables.box name.now)) }
-    ensures still { Still S.Store tx.old tx.new result }
-    ensures rest { GoesOnBegun S.Store tx.old tx.new result }
+    ensures still { Still T.view tx.old tx.new result }
+    ensures rest { GoesOnBegun T.view tx.old tx.new result }
 {
     select_row(
         tx,
@@ -100,15 +100,11 @@ fn select_totals<S: Alter>(tx: &mut Transaction<'_, S>, name: &str) -> Result<Op
 }
 
 /// The number in the row of a file.
-fn select_file<S: Alter>(
-    tx: &mut Transaction<'_, S>,
-    in_box: &str,
-    name: &str,
-) -> Result<Option<Row>, Error>
-    ensures found { FindsIn S.Store tx.old tx.new result
+fn select_file<T: Ledger>(tx: &mut T, in_box: &str, name: &str) -> Result<Option<Row>, Error>
+    ensures found { FindsIn T.view tx.old tx.new result
         (λ tables row. row ≡ option_map shown_number (tables.file (placed in_box.now name.now))) }
-    ensures still { Still S.Store tx.old tx.new result }
-    ensures rest { GoesOnBegun S.Store tx.old tx.new result }
+    ensures still { Still T.view tx.old tx.new result }
+    ensures rest { GoesOnBegun T.view tx.old tx.new result }
 {
     select_row(
         tx,
@@ -118,13 +114,13 @@ fn select_file<S: Alter>(
 }
 
 /// The row of a receipt, without its number.
-fn select_receipt<S: Alter>(tx: &mut Transaction<'_, S>, number: u64) -> Result<Option<Row>, Error>
+fn select_receipt<T: Ledger>(tx: &mut T, number: u64) -> Result<Option<Row>, Error>
     ensures found { (v : Version) (tables : Tables) (at : ℕ) → IsVersion v
-        → Pends v (seen S.Store tx.old) tables → number ≡ at + 1
-        → IsTrue (seen S.Store tx.old).in_transaction → HasCleanDisk (seen S.Store tx.new)
+        → Pends v (seen T.view tx.old) tables → number ≡ at + 1
+        → IsTrue (seen T.view tx.old).in_transaction → HasCleanDisk (seen T.view tx.new)
         → IfOk result (λ row. row ≡ option_map shown_receipt (tables.receipt at)) }
-    ensures still { Still S.Store tx.old tx.new result }
-    ensures rest { GoesOnBegun S.Store tx.old tx.new result }
+    ensures still { Still T.view tx.old tx.new result }
+    ensures rest { GoesOnBegun T.view tx.old tx.new result }
 {
     let Ok(number) = i64::try_from(number) else {
         return Err(Error::SqliteFailure(ErrorCode::TooBig));
@@ -137,10 +133,10 @@ fn select_receipt<S: Alter>(tx: &mut Transaction<'_, S>, number: u64) -> Result<
 }
 
 /// The offset of the office's clock east of UTC, in minutes.
-pub fn east<S: Alter>(tx: &mut Transaction<'_, S>) -> Result<i16, Error>
-    ensures found { FindsIn S.Store tx.old tx.new result (λ tables east. east ≡ tables.offset) }
-    ensures still { Still S.Store tx.old tx.new result }
-    ensures rest { GoesOnBegun S.Store tx.old tx.new result }
+pub fn east<T: Ledger>(tx: &mut T) -> Result<i16, Error>
+    ensures found { FindsIn T.view tx.old tx.new result (λ tables east. east ≡ tables.offset) }
+    ensures still { Still T.view tx.old tx.new result }
+    ensures rest { GoesOnBegun T.view tx.old tx.new result }
 {
     let Some(row) = select_office(tx)? else {
         return Err(Error::QueryReturnedNoRows);
@@ -152,21 +148,21 @@ pub fn east<S: Alter>(tx: &mut Transaction<'_, S>) -> Result<i16, Error>
 }
 
 /// The row of the rules: the allowance.
-fn select_allowance<S: Alter>(tx: &mut Transaction<'_, S>) -> Result<Option<Row>, Error>
-    ensures found { FindsInSecond S.Store tx.old tx.new result
+fn select_allowance<T: Ledger>(tx: &mut T) -> Result<Option<Row>, Error>
+    ensures found { FindsInSecond T.view tx.old tx.new result
         (λ tables row. row ≡ Some (shown_number tables.allowance)) }
-    ensures still { StillSecond S.Store tx.old tx.new result }
-    ensures rest { GoesOnBegun S.Store tx.old tx.new result }
+    ensures still { StillSecond T.view tx.old tx.new result }
+    ensures rest { GoesOnBegun T.view tx.old tx.new result }
 {
     select_row(tx, "SELECT allowance FROM rules", &[])
 }
 
 /// How early a link may begin.
-pub fn allowance<S: Alter>(tx: &mut Transaction<'_, S>) -> Result<Allowance, Error>
-    ensures found { FindsInSecond S.Store tx.old tx.new result
+pub fn allowance<T: Ledger>(tx: &mut T) -> Result<Allowance, Error>
+    ensures found { FindsInSecond T.view tx.old tx.new result
         (λ tables allowance. allowance ≡ tables.allowance) }
-    ensures still { StillSecond S.Store tx.old tx.new result }
-    ensures rest { GoesOnBegun S.Store tx.old tx.new result }
+    ensures still { StillSecond T.view tx.old tx.new result }
+    ensures rest { GoesOnBegun T.view tx.old tx.new result }
 {
     let Some(row) = select_allowance(tx)? else {
         return Err(Error::QueryReturnedNoRows);
@@ -178,13 +174,13 @@ pub fn allowance<S: Alter>(tx: &mut Transaction<'_, S>) -> Result<Allowance, Err
 }
 
 /// The rows of the boxes that a key is limited to. Each row is a name, and they have no order.
-fn select_limits<S: Alter>(tx: &mut Transaction<'_, S>, id: &str) -> Result<Vec<Row>, Error>
-    ensures found { FindsInSecond S.Store tx.old tx.new result
+fn select_limits<T: Ledger>(tx: &mut T, id: &str) -> Result<Vec<Row>, Error>
+    ensures found { FindsInSecond T.view tx.old tx.new result
         (λ tables rows. AreLimits tables.limit id.now rows.items) }
-    ensures still { StillSecond S.Store tx.old tx.new result }
-    ensures rest { GoesOnBegun S.Store tx.old tx.new result }
+    ensures still { StillSecond T.view tx.old tx.new result }
+    ensures rest { GoesOnBegun T.view tx.old tx.new result }
 {
-    query(tx, "SELECT box FROM key_box WHERE key_id = ?1", params![id])
+    tx.query("SELECT box FROM key_box WHERE key_id = ?1", params![id])
 }
 
 /// Whether the first column of some row is this text. If an earlier row does not begin with a text, that is an error.
@@ -200,30 +196,22 @@ fn shows_text(rows: &[Row], text: &[u8]) -> Result<bool, Error>
 }
 
 /// Whether this box is one of those that the key of this id is limited to.
-pub fn has_limit<S: Alter>(
-    tx: &mut Transaction<'_, S>,
-    id: &str,
-    in_box: &[u8],
-) -> Result<bool, Error>
-    ensures found { FindsInSecond S.Store tx.old tx.new result
+pub fn has_limit<T: Ledger>(tx: &mut T, id: &str, in_box: &[u8]) -> Result<bool, Error>
+    ensures found { FindsInSecond T.view tx.old tx.new result
         (λ tables has. IsTrue has ↔ HasLimit tables id.now in_box.now) }
-    ensures still { StillSecond S.Store tx.old tx.new result }
-    ensures rest { GoesOnBegun S.Store tx.old tx.new result }
+    ensures still { StillSecond T.view tx.old tx.new result }
+    ensures rest { GoesOnBegun T.view tx.old tx.new result }
 {
     let rows = select_limits(tx, id)?;
     shows_text(&rows, in_box)
 }
 
 /// Whether the key of this id may use this box: either it is limited to no box, or this box is among those that it is limited to.
-pub fn may_use<S: Alter>(
-    tx: &mut Transaction<'_, S>,
-    id: &str,
-    in_box: &[u8],
-) -> Result<bool, Error>
-    ensures found { FindsInSecond S.Store tx.old tx.new result
+pub fn may_use<T: Ledger>(tx: &mut T, id: &str, in_box: &[u8]) -> Result<bool, Error>
+    ensures found { FindsInSecond T.view tx.old tx.new result
         (λ tables may. IsTrue may ↔ ReachesBox tables id.now in_box.now) }
-    ensures still { StillSecond S.Store tx.old tx.new result }
-    ensures rest { GoesOnBegun S.Store tx.old tx.new result }
+    ensures still { StillSecond T.view tx.old tx.new result }
+    ensures rest { GoesOnBegun T.view tx.old tx.new result }
 {
     let rows = select_limits(tx, id)?;
     if rows.is_empty() {
@@ -233,11 +221,11 @@ pub fn may_use<S: Alter>(
 }
 
 /// The key of this id.
-pub fn key<S: Alter>(tx: &mut Transaction<'_, S>, id: &str) -> Result<Option<KeyRow>, Error>
-    ensures found { FindsIn S.Store tx.old tx.new result
+pub fn key<T: Ledger>(tx: &mut T, id: &str) -> Result<Option<KeyRow>, Error>
+    ensures found { FindsIn T.view tx.old tx.new result
         (λ tables key. option_map key_of key ≡ tables.key id.now) }
-    ensures still { Still S.Store tx.old tx.new result }
-    ensures rest { GoesOnBegun S.Store tx.old tx.new result }
+    ensures still { Still T.view tx.old tx.new result }
+    ensures rest { GoesOnBegun T.view tx.old tx.new result }
 {
     let Some(row) = select_key(tx, id)? else {
         return Ok(None);
@@ -246,15 +234,15 @@ pub fn key<S: Alter>(tx: &mut Transaction<'_, S>, id: &str) -> Result<Option<Key
 }
 
 /// The box of this name. Its settings must be those of a sound state.
-pub fn box_row<S: Alter>(tx: &mut Transaction<'_, S>, name: &str) -> Result<Option<BoxRow>, Error>
+pub fn box_row<T: Ledger>(tx: &mut T, name: &str) -> Result<Option<BoxRow>, Error>
     ensures found { (v : Version) (tables : Tables) → IsVersion v
-        → Pends v (seen S.Store tx.old) tables
+        → Pends v (seen T.view tx.old) tables
         → ((b : Box) → tables.box name.now ≡ Some b → AreSettings b.settings)
-        → IsTrue (seen S.Store tx.old).in_transaction → HasCleanDisk (seen S.Store tx.new)
+        → IsTrue (seen T.view tx.old).in_transaction → HasCleanDisk (seen T.view tx.new)
         → IfOk result (λ row. option_map settings_of row ≡ option_map (λ b. b.settings)
         (tables.box name.now)) }
-    ensures still { Still S.Store tx.old tx.new result }
-    ensures rest { GoesOnBegun S.Store tx.old tx.new result }
+    ensures still { Still T.view tx.old tx.new result }
+    ensures rest { GoesOnBegun T.view tx.old tx.new result }
 {
     let Some(row) = select_box(tx, name)? else {
         return Ok(None);
@@ -263,11 +251,11 @@ pub fn box_row<S: Alter>(tx: &mut Transaction<'_, S>, name: &str) -> Result<Opti
 }
 
 /// The totals of the box of this name; zero if the box does not exist.
-pub fn totals<S: Alter>(tx: &mut Transaction<'_, S>, name: &str) -> Result<Totals, Error>
-    ensures found { FindsIn S.Store tx.old tx.new result
+pub fn totals<T: Ledger>(tx: &mut T, name: &str) -> Result<Totals, Error>
+    ensures found { FindsIn T.view tx.old tx.new result
         (λ tables. AreTotalsOf (tables.box name.now)) }
-    ensures still { Still S.Store tx.old tx.new result }
-    ensures rest { GoesOnBegun S.Store tx.old tx.new result }
+    ensures still { Still T.view tx.old tx.new result }
+    ensures rest { GoesOnBegun T.view tx.old tx.new result }
 {
     let Some(row) = select_totals(tx, name)? else {
         return Ok(Totals { used: 0, count: 0 });
@@ -279,15 +267,15 @@ pub fn totals<S: Alter>(tx: &mut Transaction<'_, S>, name: &str) -> Result<Total
 }
 
 /// The number of the receipt of the file with this box and name.
-pub(crate) fn file_number<S: Alter>(
-    tx: &mut Transaction<'_, S>,
+pub(crate) fn file_number<T: Ledger>(
+    tx: &mut T,
     in_box: &str,
     name: &str,
 ) -> Result<Option<u64>, Error>
-    ensures found { FindsIn S.Store tx.old tx.new result
+    ensures found { FindsIn T.view tx.old tx.new result
         (λ tables number. number ≡ tables.file (placed in_box.now name.now)) }
-    ensures still { Still S.Store tx.old tx.new result }
-    ensures rest { GoesOnBegun S.Store tx.old tx.new result }
+    ensures still { Still T.view tx.old tx.new result }
+    ensures rest { GoesOnBegun T.view tx.old tx.new result }
 {
     let Some(row) = select_file(tx, in_box, name)? else {
         return Ok(None);
@@ -296,17 +284,14 @@ pub(crate) fn file_number<S: Alter>(
 }
 
 /// The receipt of this number. Its digest must have 32 bytes.
-pub(crate) fn receipt<S: Alter>(
-    tx: &mut Transaction<'_, S>,
-    number: u64,
-) -> Result<Option<ReceiptRow>, Error>
+pub(crate) fn receipt<T: Ledger>(tx: &mut T, number: u64) -> Result<Option<ReceiptRow>, Error>
     ensures found { (v : Version) (tables : Tables) (at : ℕ) → IsVersion v
-        → Pends v (seen S.Store tx.old) tables → number ≡ at + 1
+        → Pends v (seen T.view tx.old) tables → number ≡ at + 1
         → ((r : Receipt) → tables.receipt at ≡ Some r → IsDigest r.digest)
-        → IsTrue (seen S.Store tx.old).in_transaction → HasCleanDisk (seen S.Store tx.new)
+        → IsTrue (seen T.view tx.old).in_transaction → HasCleanDisk (seen T.view tx.new)
         → IfOk result (IsReceiptOf number (tables.receipt at)) }
-    ensures still { Still S.Store tx.old tx.new result }
-    ensures rest { GoesOnBegun S.Store tx.old tx.new result }
+    ensures still { Still T.view tx.old tx.new result }
+    ensures rest { GoesOnBegun T.view tx.old tx.new result }
 {
     let Some(row) = select_receipt(tx, number)? else {
         return Ok(None);
@@ -315,22 +300,22 @@ pub(crate) fn receipt<S: Alter>(
 }
 
 /// The bytes of the file, which has this size, read from its pieces.
-pub(crate) fn file_bytes<S: Alter>(
-    tx: &mut Transaction<'_, S>,
+pub(crate) fn file_bytes<T: Ledger>(
+    tx: &mut T,
     alloc: Global,
     in_box: &str,
     name: &str,
     size: u64,
 ) -> Result<Vec<u8>, Error>
     ensures found { (v : Version) (tables : Tables) (bytes : List ℕ) → IsVersion v
-        → Pends v (seen S.Store tx.old) tables → length bytes ≡ size
+        → Pends v (seen T.view tx.old) tables → length bytes ≡ size
         → ((at : ℕ) → tables.piece (record { place = placed in_box.now name.now; at = at })
         ≡ piece_of bytes at)
-        → IsTrue (seen S.Store tx.old).in_transaction → HasCleanDisk (seen S.Store tx.new)
+        → IsTrue (seen T.view tx.old).in_transaction → HasCleanDisk (seen T.view tx.new)
         → IfOk result (λ found. found.items ≡ bytes) }
-    ensures still { Still S.Store tx.old tx.new result }
-    ensures rest { GoesOnWhere (IsRunning (seen S.Store tx.old))
-        (IsTrue (seen S.Store tx.old).in_transaction) S.Store tx.old tx.new result }
+    ensures still { Still T.view tx.old tx.new result }
+    ensures rest { GoesOnWhere (IsRunning (seen T.view tx.old))
+        (IsTrue (seen T.view tx.old).in_transaction) T.view tx.old tx.new result }
 {
     match read_file(tx, alloc, in_box, name, size)? {
         Some(bytes) => Ok(bytes),
@@ -339,17 +324,13 @@ pub(crate) fn file_bytes<S: Alter>(
 }
 
 /// The rows of the unrevoked clerk keys. Each row is an id, and they have no order.
-fn select_clerks<S: Alter>(tx: &mut Transaction<'_, S>) -> Result<Vec<Row>, Error>
-    ensures found { FindsIn S.Store tx.old tx.new result
+fn select_clerks<T: Ledger>(tx: &mut T) -> Result<Vec<Row>, Error>
+    ensures found { FindsIn T.view tx.old tx.new result
         (λ tables rows. AreActing tables.key rows.items) }
-    ensures still { Still S.Store tx.old tx.new result }
-    ensures rest { GoesOnBegun S.Store tx.old tx.new result }
+    ensures still { Still T.view tx.old tx.new result }
+    ensures rest { GoesOnBegun T.view tx.old tx.new result }
 {
-    query(
-        tx,
-        "SELECT id FROM keys WHERE role = 1 AND revoked = 0",
-        &[],
-    )
+    tx.query("SELECT id FROM keys WHERE role = 1 AND revoked = 0", &[])
 }
 
 /// How many different texts the first columns of the rows hold. A row that does not begin with a text is an error.
@@ -364,42 +345,41 @@ fn count_texts(alloc: Global, rows: &[Row]) -> Result<u64, Error>
 }
 
 /// The number of unrevoked clerk keys.
-pub fn clerks<S: Alter>(tx: &mut Transaction<'_, S>, alloc: Global) -> Result<u64, Error>
+pub fn clerks<T: Ledger>(tx: &mut T, alloc: Global) -> Result<u64, Error>
     ensures found { (v : Version) (tables : Tables) (s : State) → IsVersion v
-        → Pends v (seen S.Store tx.old) tables → tables.key ≡ get s.keys
-        → IsTrue (seen S.Store tx.old).in_transaction → HasCleanDisk (seen S.Store tx.new)
+        → Pends v (seen T.view tx.old) tables → tables.key ≡ get s.keys
+        → IsTrue (seen T.view tx.old).in_transaction → HasCleanDisk (seen T.view tx.new)
         → IfOk result (λ count. count ≡ clerks s) }
-    ensures still { Still S.Store tx.old tx.new result }
-    ensures rest { GoesOnBegun S.Store tx.old tx.new result }
+    ensures still { Still T.view tx.old tx.new result }
+    ensures rest { GoesOnBegun T.view tx.old tx.new result }
 {
     let rows = select_clerks(tx)?;
     count_texts(alloc, &rows)
 }
 
 /// The row of the last receipt, which holds only its number.
-fn select_last<S: Alter>(tx: &mut Transaction<'_, S>) -> Result<Vec<Row>, Error>
+fn select_last<T: Ledger>(tx: &mut T) -> Result<Vec<Row>, Error>
     ensures found { (v : Version) (tables : Tables) (receipts : List Receipt) → IsVersion v
-        → Pends v (seen S.Store tx.old) tables → tables.receipt ≡ slice_get receipts
-        → IsTrue (seen S.Store tx.old).in_transaction → HasCleanDisk (seen S.Store tx.new)
+        → Pends v (seen T.view tx.old) tables → tables.receipt ≡ slice_get receipts
+        → IsTrue (seen T.view tx.old).in_transaction → HasCleanDisk (seen T.view tx.new)
         → IfOk result (λ rows. rows.items ≡ last_rows (length receipts)) }
-    ensures still { Still S.Store tx.old tx.new result }
-    ensures rest { GoesOnBegun S.Store tx.old tx.new result }
+    ensures still { Still T.view tx.old tx.new result }
+    ensures rest { GoesOnBegun T.view tx.old tx.new result }
 {
-    query(
-        tx,
+    tx.query(
         "SELECT number FROM receipts ORDER BY number DESC LIMIT 1",
         &[],
     )
 }
 
 /// The number that the next receipt gets.
-pub fn next_number<S: Alter>(tx: &mut Transaction<'_, S>) -> Result<u32, Error>
+pub fn next_number<T: Ledger>(tx: &mut T) -> Result<u32, Error>
     ensures found { (v : Version) (tables : Tables) (receipts : List Receipt) → IsVersion v
-        → Pends v (seen S.Store tx.old) tables → tables.receipt ≡ slice_get receipts
-        → IsTrue (seen S.Store tx.old).in_transaction → HasCleanDisk (seen S.Store tx.new)
+        → Pends v (seen T.view tx.old) tables → tables.receipt ≡ slice_get receipts
+        → IsTrue (seen T.view tx.old).in_transaction → HasCleanDisk (seen T.view tx.new)
         → IfOk result (λ number. number ≡ length receipts + 1) }
-    ensures still { Still S.Store tx.old tx.new result }
-    ensures rest { GoesOnBegun S.Store tx.old tx.new result }
+    ensures still { Still T.view tx.old tx.new result }
+    ensures rest { GoesOnBegun T.view tx.old tx.new result }
 {
     let rows = select_last(tx)?;
     let Some(row) = rows.first() else {
@@ -413,21 +393,21 @@ pub fn next_number<S: Alter>(tx: &mut Transaction<'_, S>) -> Result<u32, Error>
 }
 
 /// The receipts numbered `from` or higher, ascending, at most `most` of them. Their digests must have 32 bytes.
-pub fn receipts<S: Alter>(
-    tx: &mut Transaction<'_, S>,
+pub fn receipts<T: Ledger>(
+    tx: &mut T,
     alloc: Global,
     from: u64,
     most: usize,
 ) -> Result<Vec<ReceiptRow>, Error>
     ensures found { (v : Version) (tables : Tables) (receipts : List Receipt) → IsVersion v
-        → Pends v (seen S.Store tx.old) tables → tables.receipt ≡ slice_get receipts
+        → Pends v (seen T.view tx.old) tables → tables.receipt ≡ slice_get receipts
         → AllByRecursion (λ r. IsDigest r.digest) receipts
-        → IsTrue (seen S.Store tx.old).in_transaction → HasCleanDisk (seen S.Store tx.new)
+        → IsTrue (seen T.view tx.old).in_transaction → HasCleanDisk (seen T.view tx.new)
         → IfOk result (λ rows. map numbered_receipt rows.items ≡ take most
         (drop (from - 1) (numbered 1 receipts))) }
-    ensures still { Still S.Store tx.old tx.new result }
-    ensures rest { GoesOnWhere (IsRunning (seen S.Store tx.old))
-        (IsTrue (seen S.Store tx.old).in_transaction) S.Store tx.old tx.new result }
+    ensures still { Still T.view tx.old tx.new result }
+    ensures rest { GoesOnWhere (IsRunning (seen T.view tx.old))
+        (IsTrue (seen T.view tx.old).in_transaction) T.view tx.old tx.new result }
 {
     let mut rows = Vec::new(alloc);
     let mut number = from.max(1);

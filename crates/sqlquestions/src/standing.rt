@@ -18,20 +18,21 @@ ghost use Rattle.sqltables.specs.Staging.{held};
 use crate::comparing::has_pieces;
 use crate::questions::{file_bytes, file_number, receipt};
 use boxes::{FileRow, ReceiptRow};
-use sqlite::{Alter, Error, Transaction};
+use sqlite::Error;
+use sqltables::calls::Ledger;
 use sqltables::staging::Pieces;
 use std::alloc::Global;
 
 /// The receipt of the file with this box and name.
-pub fn standing_receipt<S: Alter>(
-    tx: &mut Transaction<'_, S>,
+pub fn standing_receipt<T: Ledger>(
+    tx: &mut T,
     in_box: &str,
     name: &str,
 ) -> Result<Option<ReceiptRow>, Error>
-    ensures found { FindsOf S.Store tx.old tx.new result
+    ensures found { FindsOf T.view tx.old tx.new result
         (λ s. IsReceiptAt s (placed in_box.now name.now)) }
-    ensures still { Still S.Store tx.old tx.new result }
-    ensures rest { GoesOnBegun S.Store tx.old tx.new result }
+    ensures still { Still T.view tx.old tx.new result }
+    ensures rest { GoesOnBegun T.view tx.old tx.new result }
 {
     match file_number(tx, in_box, name)? {
         Some(number) => receipt(tx, number),
@@ -40,18 +41,14 @@ pub fn standing_receipt<S: Alter>(
 }
 
 /// The size in bytes of the file with this box and name, in a sound state. It is read from the file's receipt.
-pub fn standing_size<S: Alter>(
-    tx: &mut Transaction<'_, S>,
-    in_box: &str,
-    name: &str,
-) -> Result<Option<u64>, Error>
-    ensures found { (v : Version) (s : State) → IsVersion v → Pends v (seen S.Store tx.old) (tables_of s)
+pub fn standing_size<T: Ledger>(tx: &mut T, in_box: &str, name: &str) -> Result<Option<u64>, Error>
+    ensures found { (v : Version) (s : State) → IsVersion v → Pends v (seen T.view tx.old) (tables_of s)
         → IsSound s
-        → IsTrue (seen S.Store tx.old).in_transaction → HasCleanDisk (seen S.Store tx.new)
+        → IsTrue (seen T.view tx.old).in_transaction → HasCleanDisk (seen T.view tx.new)
         → IfOk result (λ size. size ≡ option_map (λ f. length f.bytes)
         (get s.files (placed in_box.now name.now))) }
-    ensures still { Still S.Store tx.old tx.new result }
-    ensures rest { GoesOnBegun S.Store tx.old tx.new result }
+    ensures still { Still T.view tx.old tx.new result }
+    ensures rest { GoesOnBegun T.view tx.old tx.new result }
 {
     let Some(receipt) = standing_receipt(tx, in_box, name)? else {
         return Ok(None);
@@ -60,16 +57,16 @@ pub fn standing_size<S: Alter>(
 }
 
 /// The file with this box and name, with its receipt.
-pub fn file<S: Alter>(
-    tx: &mut Transaction<'_, S>,
+pub fn file<T: Ledger>(
+    tx: &mut T,
     alloc: Global,
     in_box: &str,
     name: &str,
 ) -> Result<Option<FileRow>, Error>
-    ensures found { FindsOf S.Store tx.old tx.new result
+    ensures found { FindsOf T.view tx.old tx.new result
         (λ s. IsFileAt s (placed in_box.now name.now)) }
-    ensures still { Still S.Store tx.old tx.new result }
-    ensures rest { GoesOnBegun S.Store tx.old tx.new result }
+    ensures still { Still T.view tx.old tx.new result }
+    ensures rest { GoesOnBegun T.view tx.old tx.new result }
 {
     let Some(receipt) = standing_receipt(tx, in_box, name)? else {
         return Ok(None);
@@ -79,16 +76,16 @@ pub fn file<S: Alter>(
 }
 
 /// Whether the file with this box and name has exactly these bytes. The size in its receipt is checked first.
-pub fn has_bytes<S: Alter>(
-    tx: &mut Transaction<'_, S>,
+pub fn has_bytes<T: Ledger>(
+    tx: &mut T,
     in_box: &str,
     name: &str,
     bytes: &Pieces,
 ) -> Result<bool, Error>
-    ensures found { FindsOf S.Store tx.old tx.new result
+    ensures found { FindsOf T.view tx.old tx.new result
         (λ s has. IsTrue has ↔ HasBytes s (placed in_box.now name.now) (held bytes.now)) }
-    ensures still { Still S.Store tx.old tx.new result }
-    ensures rest { GoesOnBegun S.Store tx.old tx.new result }
+    ensures still { Still T.view tx.old tx.new result }
+    ensures rest { GoesOnBegun T.view tx.old tx.new result }
 {
     let Some(size) = standing_size(tx, in_box, name)? else {
         return Ok(false);

@@ -1,23 +1,21 @@
 -- Calls that collect the bytes of a file.
 use Rattle.std.proofs.Common.{◌≡◌, ◌∙◌, Ok, ℕ, List, IsTrue, arith}
 use Rattle.std.specs.Prelude.{Result}
-use Rattle.sqlite_trees.specs.declared.store.Store.{Ghosts}
 use Rattle.sqlite.specs.declared.error.Error.{Error}
-use Rattle.sqlite.specs.declared.transaction.Transaction.{Transaction}
 use Rattle.sqlite.specs.State.{HasCleanDisk}
 use Rattle.boxes.specs.State.{Place}
-use Rattle.sqltables.specs.Inside.{seen, GoesOnBegun, GoesOnWhere}
+use Rattle.sqltables.specs.Inside.{View, seen, GoesOnBegun, GoesOnWhere}
 use Rattle.sqltables.specs.Means.{IsRunning}
 use Rattle.sqltables.proofs.Building.{survives_then, keeps_then}
 use Rattle.sqltables.proofs.Gathering.{Gathered}
 
 -- the effect of the calls so far
-pub gathered_goes : {S : Type 0} {g : Ghosts S} {old now : Transaction S} {place : Place} {size : ℕ} {bytes : List ℕ} {count : ℕ} → now.conn.ghost_name ≡ old.conn.ghost_name → Gathered (seen g old) (seen g now) place size bytes count
+pub gathered_goes : {S : Type 0} {g : S → View} {old now : S} {place : Place} {size : ℕ} {bytes : List ℕ} {count : ℕ} → (g now).name ≡ (g old).name → Gathered (seen g old) (seen g now) place size bytes count
     → {T : Type 0} (value : T) → GoesOnWhere (IsRunning (seen g old)) (IsTrue (seen g old).in_transaction) g old now (Ok value)
 gathered_goes same gathered value = record { same_reference = same; running = gathered.running; uncommitted = gathered.uncommitted; survives = gathered.survives }
 
 -- the effect of the calls so far, and of the next
-pub gathered_then : {S : Type 0} {g : Ghosts S} {old mid new : Transaction S} {place : Place} {size : ℕ} {bytes : List ℕ} {count : ℕ} {T : Type 0} {result : Result T Error} → mid.conn.ghost_name ≡ old.conn.ghost_name → Gathered (seen g old) (seen g mid) place size bytes count
+pub gathered_then : {S : Type 0} {g : S → View} {old mid new : S} {place : Place} {size : ℕ} {bytes : List ℕ} {count : ℕ} {T : Type 0} {result : Result T Error} → (g mid).name ≡ (g old).name → Gathered (seen g old) (seen g mid) place size bytes count
     → GoesOnBegun g mid new result → GoesOnWhere (IsRunning (seen g old)) (IsTrue (seen g old).in_transaction) g old new result
 gathered_then {g = g} {old = old} {mid = mid} {new = new} same gathered next =
     let early : HasCleanDisk (seen g new) → HasCleanDisk (seen g mid) = λ clean. omega (arith, clean, next.survives.clean) in

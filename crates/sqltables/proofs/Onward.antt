@@ -3,11 +3,9 @@ use Rattle.std.proofs.Common.{Ok, Err, arith, refl, ◌∙◌}
 use Rattle.std.specs.Prelude.{Result, OnOk}
 use Rattle.std.specs.Result.{IsErr}
 use Rattle.std.proofs.lemmas.Result.{IfOk-from_err}
-use Rattle.sqlite_trees.specs.declared.store.Store.{Ghosts}
 use Rattle.sqlite.specs.declared.error.Error.{Error}
-use Rattle.sqlite.specs.declared.transaction.Transaction.{Transaction}
 use Rattle.sqlite.specs.State.{HasCleanDisk}
-use Rattle.sqltables.specs.Inside.{seen, GoesOnBegun, GoesOnWhere}
+use Rattle.sqltables.specs.Inside.{View, seen, GoesOnBegun, GoesOnWhere}
 use Rattle.sqltables.specs.Means.{IsRunning}
 use Rattle.sqltables.proofs.Building.{keeps_then, survives_itself, survives_then}
 use Rattle.sqltables.proofs.Runs.{itself_keeps}
@@ -16,9 +14,9 @@ on_any : {T E P : Type 0} (result : Result T E) → P → OnOk result P
 on_any (Ok value) is = is
 on_any (Err error) is = tt
 
-module _ {S : Type 0} {g : Ghosts S} {Ran Began : Type 0} where
+module _ {S : Type 0} {g : S → View} {Ran Began : Type 0} where
   -- nothing was called
-  pub not_called : {T : Type 0} (tx : Transaction S) (result : Result T Error) → (Ran → OnOk result (IsRunning (seen g tx))) → GoesOnWhere Ran Began g tx tx result
+  pub not_called : {T : Type 0} (tx : S) (result : Result T Error) → (Ran → OnOk result (IsRunning (seen g tx))) → GoesOnWhere Ran Began g tx tx result
   not_called tx result running = record {
     same_reference = refl;
     running = λ clean ran. running ran;
@@ -27,14 +25,14 @@ module _ {S : Type 0} {g : Ghosts S} {Ran Began : Type 0} where
   }
 
   -- nothing was called, and there is an error
-  pub refused : {T : Type 0} {error : Error} (tx : Transaction S) → GoesOnWhere {T = T} Ran Began g tx tx (Err error)
+  pub refused : {T : Type 0} {error : Error} (tx : S) → GoesOnWhere {T = T} Ran Began g tx tx (Err error)
   refused {T = T} {error = error} tx = not_called {T = T} tx (Err error) (λ ran. tt)
 
   -- nothing was called, and the result is an error
-  pub gave_up : {T : Type 0} (tx : Transaction S) (result : Result T Error) → IsErr result → GoesOnWhere Ran Began g tx tx result
+  pub gave_up : {T : Type 0} (tx : S) (result : Result T Error) → IsErr result → GoesOnWhere Ran Began g tx tx result
   gave_up tx result err = not_called tx result (λ ran. IfOk-from_err result _ err)
 
-  module _ {old new : Transaction S} where
+  module _ {old new : S} where
     -- the effect of a failed call, for another error
     pub failed : {T U : Type 0} {first : Result T Error} (result : Result U Error) → GoesOnWhere Ran Began g old new first → IsErr result → GoesOnWhere Ran Began g old new result
     failed result goes err = record {
@@ -67,7 +65,7 @@ module _ {S : Type 0} {g : Ghosts S} {Ran Began : Type 0} where
     }
 
   -- a call, and then another
-  module _ {RanThen BeganThen : Type 0} {old mid new : Transaction S} {T U : Type 0} {value : T} {result : Result U Error} (began : Began → Ran) (then : IsRunning (seen g mid) → RanThen × BeganThen)
+  module _ {RanThen BeganThen : Type 0} {old mid new : S} {T U : Type 0} {value : T} {result : Result U Error} (began : Began → Ran) (then : IsRunning (seen g mid) → RanThen × BeganThen)
       (first : GoesOnWhere Ran Began g old mid (Ok value)) (second : GoesOnWhere RanThen BeganThen g mid new result) where
     early : HasCleanDisk (seen g new) → HasCleanDisk (seen g mid)
     early clean = omega (arith, clean, second.survives.clean)
@@ -81,5 +79,5 @@ module _ {S : Type 0} {g : Ghosts S} {Ran Began : Type 0} where
     }
 
 -- two calls in a transaction that is not over
-pub begun_then : {S T U : Type 0} {g : Ghosts S} {old mid new : Transaction S} {value : T} {result : Result U Error} → GoesOnBegun g old mid (Ok value) → GoesOnBegun g mid new result → GoesOnBegun g old new result
+pub begun_then : {S T U : Type 0} {g : S → View} {old mid new : S} {value : T} {result : Result U Error} → GoesOnBegun g old mid (Ok value) → GoesOnBegun g mid new result → GoesOnBegun g old new result
 begun_then first second = and_then (λ began. began) (λ running. (running.0, running.0)) first second

@@ -7,27 +7,26 @@ ghost use Rattle.sqltables.specs.Means.{IsRunning};
 ghost use Rattle.sqltables.specs.Pieces.{IsPieceAt, AreFound};
 ghost use Rattle.sqltables.specs.Tables.{placed};
 
-use crate::calls::query;
+use crate::calls::Ledger;
 use crate::{MOST_BYTES, PIECE};
-use sqlite::{Alter, Error, ErrorCode, Transaction, params};
+use sqlite::{Error, ErrorCode, params};
 use std::alloc::Global;
 
 /// One piece of a file, if it exists.
-pub fn read_piece<S: Alter>(
-    tx: &mut Transaction<'_, S>,
+pub fn read_piece<T: Ledger>(
+    tx: &mut T,
     in_box: &str,
     name: &str,
     part: u32,
 ) -> Result<Option<Vec<u8>>, Error>
-    ensures read { OfWholeOffice S.Store tx.old tx.new
-        (IfOk result (IsPieceAt ((seen S.Store tx.old).now.trees 9) (placed in_box.now name.now) part)) }
-    ensures same { SameOffice S.Store tx.old tx.new result }
-    ensures mode { HasCleanDisk (seen S.Store tx.new)
-        → OnOk result ((seen S.Store tx.new).in_transaction ≡ (seen S.Store tx.old).in_transaction) }
-    ensures rest { GoesOnBegun S.Store tx.old tx.new result }
+    ensures read { OfWholeOffice T.view tx.old tx.new
+        (IfOk result (IsPieceAt ((seen T.view tx.old).now.trees 9) (placed in_box.now name.now) part)) }
+    ensures same { SameOffice T.view tx.old tx.new result }
+    ensures mode { HasCleanDisk (seen T.view tx.new)
+        → OnOk result ((seen T.view tx.new).in_transaction ≡ (seen T.view tx.old).in_transaction) }
+    ensures rest { GoesOnBegun T.view tx.old tx.new result }
 {
-    let rows = query(
-        tx,
+    let rows = tx.query(
         "SELECT bytes FROM pieces WHERE box = ?1 AND name = ?2 AND part = ?3",
         params![in_box, name, part],
     )?;
@@ -39,22 +38,22 @@ pub fn read_piece<S: Alter>(
 }
 
 /// The bytes of a file of this size, if all its pieces exist. A piece with a wrong length is the error `DatabaseCorrupt`.
-pub fn read_file<S: Alter>(
-    tx: &mut Transaction<'_, S>,
+pub fn read_file<T: Ledger>(
+    tx: &mut T,
     alloc: Global,
     in_box: &str,
     name: &str,
     size: u64,
 ) -> Result<Option<Vec<u8>>, Error>
-    ensures read { OfWholeOffice S.Store tx.old tx.new
-        (IfOk result (AreFound ((seen S.Store tx.old).now.trees 9) (placed in_box.now name.now) size)) }
-    ensures same { SameOffice S.Store tx.old tx.new result }
-    ensures opened { HasCleanDisk (seen S.Store tx.new) → IsTrue (seen S.Store tx.old).in_transaction
-        → OnOk result ((size ≡ 0) ⊎ IsTrue (seen S.Store tx.old).is_open) }
-    ensures mode { HasCleanDisk (seen S.Store tx.new)
-        → OnOk result ((seen S.Store tx.new).in_transaction ≡ (seen S.Store tx.old).in_transaction) }
-    ensures rest { GoesOnWhere (IsRunning (seen S.Store tx.old))
-        (IsTrue (seen S.Store tx.old).in_transaction) S.Store tx.old tx.new result }
+    ensures read { OfWholeOffice T.view tx.old tx.new
+        (IfOk result (AreFound ((seen T.view tx.old).now.trees 9) (placed in_box.now name.now) size)) }
+    ensures same { SameOffice T.view tx.old tx.new result }
+    ensures opened { HasCleanDisk (seen T.view tx.new) → IsTrue (seen T.view tx.old).in_transaction
+        → OnOk result ((size ≡ 0) ⊎ IsTrue (seen T.view tx.old).is_open) }
+    ensures mode { HasCleanDisk (seen T.view tx.new)
+        → OnOk result ((seen T.view tx.new).in_transaction ≡ (seen T.view tx.old).in_transaction) }
+    ensures rest { GoesOnWhere (IsRunning (seen T.view tx.old))
+        (IsTrue (seen T.view tx.old).in_transaction) T.view tx.old tx.new result }
 {
     let mut bytes = Vec::with_capacity(alloc, size.min(MOST_BYTES as u64) as usize)?;
     let mut part: u32 = 0;

@@ -1,6 +1,6 @@
 use Rattle.std.proofs.Common.{◌≡◌, ◌+◌, ◌-◌, ◌<◌, ◌++◌, inl, inr, length, min, arith, rules, sym, ap, subst, subst₂, ◌∙◌, refl}
 use Rattle.std.specs.Prelude.{◌≢◌}
-use Rattle.sqlite.specs.Held.{state}
+use Rattle.sqltables.specs.Inside.{seen}
 use Rattle.sqlite.specs.State.{HasCleanDisk}
 use Rattle.boxes.specs.State.{Place}
 use Rattle.sqltables.specs.Pieces.{HasPiece, IsPieceAt}
@@ -13,15 +13,15 @@ use Rattle.sqlaudit.proofs.digests.find_bytes.Goals as goal
 pub loop-tx-init : goal.loop-tx-init
 loop-tx-init g c =
     let place : Place = record { box = c.args.in_box.now; name = c.args.name.now } in
-    let entry = state g.S.Store c.args.tx.now.conn.now in
+    let entry = seen g.T.Ledger.view c.args.tx.now in
     (refl, subst (λ bytes. Gathered entry entry place c.args.size bytes 0) (sym c.in_ok-bytes.ensures.items) (none_gathered entry place c.args.size))
 
 pub loop-tx-preserved : goal.loop-tx-preserved
 loop-tx-preserved g c =
     let place : Place = record { box = c.args.in_box.now; name = c.args.name.now } in
-    let entry = state g.S.Store c.args.tx.now.conn.now in
-    let mid = state g.S.Store c.loop-tx.tx.conn.now in
-    let now = state g.S.Store c.read_piece.new.tx.conn.now in
+    let entry = seen g.T.Ledger.view c.args.tx.now in
+    let mid = seen g.T.Ledger.view c.loop-tx.tx in
+    let now = seen g.T.Ledger.view c.read_piece.new.tx in
     let bytes = c.loop-tx.bytes.items in
     let piece = c.in-Some.piece.items in
     let next : ReadsNext mid now place c.loop-tx.part piece = record {
@@ -41,8 +41,8 @@ loop-tx-preserved g c =
 pub returns-in_default-clause-read : goal.returns-in_default-clause-read
 returns-in_default-clause-read g c v ours has whole inside clean =
     let place : Place = record { box = c.args.in_box.now; name = c.args.name.now } in
-    let entry = state g.S.Store c.args.tx.now.conn.now in
-    let mid = state g.S.Store c.loop-tx.tx.conn.now in
+    let entry = seen g.T.Ledger.view c.args.tx.now in
+    let mid = seen g.T.Ledger.view c.loop-tx.tx in
     let bytes = c.loop-tx.bytes.items in
     let first : OpensOurs v entry = record { version = ours; schema = has; inside = inside } in
     let early : HasCleanDisk mid = omega (arith, clean, c.read_piece.ensures.rest.survives.clean) in
@@ -54,8 +54,8 @@ returns-in_default-clause-read g c v ours has whole inside clean =
 pub returns-then-len-min-clause-read : goal.returns-then-len-min-clause-read
 returns-then-len-min-clause-read g c v ours has whole inside clean =
     let place : Place = record { box = c.args.in_box.now; name = c.args.name.now } in
-    let entry = state g.S.Store c.args.tx.now.conn.now in
-    let mid = state g.S.Store c.loop-tx.tx.conn.now in
+    let entry = seen g.T.Ledger.view c.args.tx.now in
+    let mid = seen g.T.Ledger.view c.loop-tx.tx in
     let bytes = c.loop-tx.bytes.items in
     let piece = c.in-Some.piece.items in
     let first : OpensOurs v entry = record { version = ours; schema = has; inside = inside } in
@@ -94,8 +94,8 @@ returns-clause-rest g c = gathered_goes c.loop-tx.invariant.0 c.loop-tx.invarian
 pub returns-in_default-clause-same : goal.returns-in_default-clause-same
 returns-in_default-clause-same g c v ours has inside clean =
     let place : Place = record { box = c.args.in_box.now; name = c.args.name.now } in
-    let entry = state g.S.Store c.args.tx.now.conn.now in
-    let mid = state g.S.Store c.loop-tx.tx.conn.now in
+    let entry = seen g.T.Ledger.view c.args.tx.now in
+    let mid = seen g.T.Ledger.view c.loop-tx.tx in
     let bytes = c.loop-tx.bytes.items in
     let first : OpensOurs v entry = record { version = ours; schema = has; inside = inside } in
     let early : HasCleanDisk mid = omega (arith, clean, c.read_piece.ensures.rest.survives.clean) in
@@ -105,8 +105,8 @@ returns-in_default-clause-same g c v ours has inside clean =
 pub returns-then-len-min-clause-same : goal.returns-then-len-min-clause-same
 returns-then-len-min-clause-same g c v ours has inside clean =
     let place : Place = record { box = c.args.in_box.now; name = c.args.name.now } in
-    let entry = state g.S.Store c.args.tx.now.conn.now in
-    let mid = state g.S.Store c.loop-tx.tx.conn.now in
+    let entry = seen g.T.Ledger.view c.args.tx.now in
+    let mid = seen g.T.Ledger.view c.loop-tx.tx in
     let bytes = c.loop-tx.bytes.items in
     let first : OpensOurs v entry = record { version = ours; schema = has; inside = inside } in
     let early : HasCleanDisk mid = omega (arith, clean, c.read_piece.ensures.rest.survives.clean) in

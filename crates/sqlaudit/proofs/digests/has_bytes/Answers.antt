@@ -3,8 +3,8 @@ use Rattle.std.specs.Prelude.{MatchBool}
 use Rattle.std.proofs.lemmas.Result.{IfOk-weaker}
 use Rattle.sigtext.specs.Bytes.{AreBytes}
 use Rattle.sigv4.specs.Hmac.{sha256}
-use Rattle.sqlite.specs.Held.{state}
 use Rattle.boxes.specs.State.{Place}
+use Rattle.sqltables.specs.Inside.{seen}
 use Rattle.sqlaudit.specs.Opened.{AreBytesFound, HasBytes, IsBare, IsNotBare, LacksBytes, place_in}
 use Rattle.sqlaudit.proofs.Digested.{told, told_empty, none_told}
 use Rattle.sqltables.proofs.Onward.{failed, refused, succeeded, weaker}
@@ -25,7 +25,7 @@ module _ (g : given.Over) (c : In-Ok g) where
 
 pub returns-in_default-3-clause-read : goal.returns-in_default-3-clause-read
 returns-in_default-3-clause-read g c v ours has whole inside clean =
-    let rows = (state g.S.Store c.args.tx.now.conn.now).now.trees 9 in
+    let rows = (seen g.T.Ledger.view c.args.tx.now).now.trees 9 in
     let place : Place = record { box = c.in-Ok-Ok.in_box.now; name = c.in-Ok-Ok.name.now } in
     let sized = (goal.at.returns-in_default-3-clause-read g c).In-Ok in
     let there = place_is g sized in
@@ -35,7 +35,7 @@ returns-in_default-3-clause-read g c v ours has whole inside clean =
 
 pub returns-then-size-eq0-clause-read : goal.returns-then-size-eq0-clause-read
 returns-then-size-eq0-clause-read g c v ours has whole inside clean =
-    let rows = (state g.S.Store c.args.tx.now.conn.now).now.trees 9 in
+    let rows = (seen g.T.Ledger.view c.args.tx.now).now.trees 9 in
     let receipts = c.args.receipts.now in
     let file = c.args.file.now in
     let given = c.in-Some.given.now in
@@ -49,7 +49,7 @@ returns-then-size-eq0-clause-read g c v ours has whole inside clean =
 
 pub returns-clause-read : goal.returns-clause-read
 returns-clause-read g c v ours has whole inside clean =
-    let rows = (state g.S.Store c.args.tx.now.conn.now).now.trees 9 in
+    let rows = (seen g.T.Ledger.view c.args.tx.now).now.trees 9 in
     let place : Place = record { box = c.in-Ok-Ok.in_box.now; name = c.in-Ok-Ok.name.now } in
     let sized = (goal.at.returns-clause-read g c).In-Ok in
     let there = place_is g sized in

@@ -1,7 +1,7 @@
 use Rattle.std.proofs.Common.{refl, sym, subst, ◌∙◌, arith}
 use Rattle.std.specs.Prelude.{MatchBool, Contains}
 use Rattle.std.proofs.lemmas.List.{take_all}
-use Rattle.sqlite.specs.Held.{state}
+use Rattle.sqltables.specs.Inside.{seen}
 use Rattle.sqlaudit.specs.Opened.{HasBytes, LacksBytes}
 use Rattle.sqlaudit.proofs.Entries.{has_at}
 use Rattle.sqltables.proofs.Gathering.{OpensOurs}
@@ -10,13 +10,13 @@ use Rattle.sqltables.proofs.Onward.{and_then, failed, succeeded}
 use Rattle.sqlaudit.proofs.digests.have_bytes.Goals as goal
 
 pub loop-file-init : goal.loop-file-init
-loop-file-init g c = (refl, none_looked (state g.S.Store c.args.tx.now.conn.now) c.args.receipts.now)
+loop-file-init g c = (refl, none_looked (seen g.T.Ledger.view c.args.tx.now) c.args.receipts.now)
 
 pub loop-file-preserved : goal.loop-file-preserved
 loop-file-preserved g c =
-    let entry = state g.S.Store c.args.tx.now.conn.now in
-    let mid = state g.S.Store c.loop-file.tx.conn.now in
-    let now = state g.S.Store c.has_bytes.new.tx.conn.now in
+    let entry = seen g.T.Ledger.view c.args.tx.now in
+    let mid = seen g.T.Ledger.view c.loop-file.tx in
+    let now = seen g.T.Ledger.view c.has_bytes.new.tx in
     let next : LooksOn mid now c.args.receipts.now c.file-item.result c.in_ok-has_bytes.field-0 = record {
       read = λ v ours whole clean. c.in_ok-has_bytes.ensures.read v ours.version ours.schema whole ours.inside clean;
       same = λ v ours clean. c.in_ok-has_bytes.ensures.same v ours.version ours.schema ours.inside clean;
@@ -30,9 +30,9 @@ loop-file-preserved g c =
 
 pub returns-then-not-branch-clause-read : goal.returns-then-not-branch-clause-read
 returns-then-not-branch-clause-read g c v ours has whole running clean =
-    let entry = state g.S.Store c.args.tx.now.conn.now in
-    let mid = state g.S.Store c.loop-file.tx.conn.now in
-    let now = state g.S.Store c.has_bytes.new.tx.conn.now in
+    let entry = seen g.T.Ledger.view c.args.tx.now in
+    let mid = seen g.T.Ledger.view c.loop-file.tx in
+    let now = seen g.T.Ledger.view c.has_bytes.new.tx in
     let rows = entry.now.trees 9 in
     let next : LooksOn mid now c.args.receipts.now c.file-item.result c.in_ok-has_bytes.field-0 = record {
       read = λ v ours whole clean. c.in_ok-has_bytes.ensures.read v ours.version ours.schema whole ours.inside clean;
@@ -50,7 +50,7 @@ returns-then-not-branch-clause-read g c v ours has whole running clean =
 
 pub returns-clause-read : goal.returns-clause-read
 returns-clause-read g c v ours has whole running clean =
-    let first : OpensOurs v (state g.S.Store c.args.tx.now.conn.now) = record { version = ours; schema = has; inside = running.0 } in
+    let first : OpensOurs v (seen g.T.Ledger.view c.args.tx.now) = record { version = ours; schema = has; inside = running.0 } in
     λ file there. c.loop-file.invariant.1.each v first running whole clean file (subst (λ xs. Contains xs file) (sym (take_all c.loop-file.file-index c.args.files.now c.loop-file-test.false)) there)
 
 pub returns-in_err-has_bytes-clause-rest : goal.returns-in_err-has_bytes-clause-rest

@@ -1,9 +1,9 @@
 use Rattle.std.proofs.Common.{◌≡◌, take}
-use Rattle.sqlite.specs.Held.{state}
+use Rattle.sqltables.specs.Inside.{seen}
 use Rattle.sqlaudit.proofs.Digested.{Looked}
 use Rattle.sqlaudit.proofs.digests.have_bytes.Given as goal
 
 abbrev pub invariant-loop-file : goal.invariant-loop-file
 invariant-loop-file g l =
-    (l.tx.conn.ghost_name ≡ l.fn.tx.conn.ghost_name)
-    × Looked (state g.S.Store l.fn.tx.conn.now) (state g.S.Store l.tx.conn.now) l.receipts (take l.file-index l.files)
+    ((g.T.Ledger.view l.tx).name ≡ (g.T.Ledger.view l.fn.tx).name)
+    × Looked (seen g.T.Ledger.view l.fn.tx) (seen g.T.Ledger.view l.tx) l.receipts (take l.file-index l.files)

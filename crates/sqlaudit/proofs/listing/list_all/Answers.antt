@@ -1,7 +1,7 @@
 use Rattle.std.proofs.Common.{[], arith, subst, ◌∙◌}
+use Rattle.sqltables.specs.Inside.{seen}
 use Rattle.sqlite.specs.Effect.{Database}
 use Rattle.sqlite.specs.State.{HasCleanDisk}
-use Rattle.sqlite.specs.Held.{state}
 use Rattle.sqlaudit.specs.Lines.{AreLines, AreLinesWhere, HaveRowids, IsLater, IsKeyLine, IsBoxLine, IsReceiptLine, IsPieceLine}
 use Rattle.sqlaudit.specs.Formats.{version_of}
 use Rattle.sqlaudit.specs.Opened.{AreAdded}
@@ -18,12 +18,12 @@ pub returns-clause-listed : goal.returns-clause-listed
 returns-clause-listed g c has whole inside clean =
     let v = version_of c.args.format in
     let ours = is_version c.args.format in
-    let entry = state g.S.Store c.args.tx.now.conn.now in
-    let at_keys = state g.S.Store c.list.new.tx.conn.now in
-    let at_boxes = state g.S.Store c.list-2.new.tx.conn.now in
-    let at_pieces = state g.S.Store c.list_long.new.tx.conn.now in
-    let at_files = state g.S.Store c.list_numbers.new.tx.conn.now in
-    let at_receipts = state g.S.Store c.list_long-2.new.tx.conn.now in
+    let entry = seen g.T.Ledger.view c.args.tx.now in
+    let at_keys = seen g.T.Ledger.view c.list.new.tx in
+    let at_boxes = seen g.T.Ledger.view c.list-2.new.tx in
+    let at_pieces = seen g.T.Ledger.view c.list_long.new.tx in
+    let at_files = seen g.T.Ledger.view c.list_numbers.new.tx in
+    let at_receipts = seen g.T.Ledger.view c.list_long-2.new.tx in
     let clean_receipts : HasCleanDisk at_receipts = omega (arith, clean, c.list_added.ensures.rest.survives.clean) in
     let clean_files : HasCleanDisk at_files = omega (arith, clean_receipts, c.list_long-2.ensures.rest.survives.clean) in
     let clean_pieces : HasCleanDisk at_pieces = omega (arith, clean_files, c.list_numbers.ensures.rest.survives.clean) in
@@ -63,12 +63,12 @@ pub returns-clause-same : goal.returns-clause-same
 returns-clause-same g c has inside clean =
     let v = version_of c.args.format in
     let ours = is_version c.args.format in
-    let entry = state g.S.Store c.args.tx.now.conn.now in
-    let at_keys = state g.S.Store c.list.new.tx.conn.now in
-    let at_boxes = state g.S.Store c.list-2.new.tx.conn.now in
-    let at_pieces = state g.S.Store c.list_long.new.tx.conn.now in
-    let at_files = state g.S.Store c.list_numbers.new.tx.conn.now in
-    let at_receipts = state g.S.Store c.list_long-2.new.tx.conn.now in
+    let entry = seen g.T.Ledger.view c.args.tx.now in
+    let at_keys = seen g.T.Ledger.view c.list.new.tx in
+    let at_boxes = seen g.T.Ledger.view c.list-2.new.tx in
+    let at_pieces = seen g.T.Ledger.view c.list_long.new.tx in
+    let at_files = seen g.T.Ledger.view c.list_numbers.new.tx in
+    let at_receipts = seen g.T.Ledger.view c.list_long-2.new.tx in
     let clean_receipts : HasCleanDisk at_receipts = omega (arith, clean, c.list_added.ensures.rest.survives.clean) in
     let clean_files : HasCleanDisk at_files = omega (arith, clean_receipts, c.list_long-2.ensures.rest.survives.clean) in
     let clean_pieces : HasCleanDisk at_pieces = omega (arith, clean_files, c.list_numbers.ensures.rest.survives.clean) in

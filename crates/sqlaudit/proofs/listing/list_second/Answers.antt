@@ -1,7 +1,7 @@
 use Rattle.std.proofs.Common.{arith, sym, subst, ◌∙◌}
+use Rattle.sqltables.specs.Inside.{seen}
 use Rattle.sqlite.specs.Effect.{Database}
 use Rattle.sqlite.specs.State.{HasCleanDisk}
-use Rattle.sqlite.specs.Held.{state}
 use Rattle.sqltables.specs.Schema.{v2}
 use Rattle.sqltables.proofs.Ours.{versions_differ}
 use Rattle.sqlaudit.specs.Lines.{AreLines, HaveRowids, IsLimitLine}
@@ -12,9 +12,9 @@ use Rattle.sqlaudit.proofs.listing.list_second.Goals as goal
 
 pub returns-clause-listed : goal.returns-clause-listed
 returns-clause-listed g c has inside clean =
-    let entry = state g.S.Store c.args.tx.now.conn.now in
-    let at_rules = state g.S.Store c.list.new.tx.conn.now in
-    let at_limits = state g.S.Store c.list-2.new.tx.conn.now in
+    let entry = seen g.T.Ledger.view c.args.tx.now in
+    let at_rules = seen g.T.Ledger.view c.list.new.tx in
+    let at_limits = seen g.T.Ledger.view c.list-2.new.tx in
     let clean_limits : HasCleanDisk at_limits = clean in
     let clean_rules : HasCleanDisk at_rules = omega (arith, clean_limits, c.list-2.ensures.rest.survives.clean) in
     let s0 = begins v2 entry has inside in
@@ -32,9 +32,9 @@ returns-clause-listed g c has inside clean =
 
 pub returns-clause-same : goal.returns-clause-same
 returns-clause-same g c has inside clean =
-    let entry = state g.S.Store c.args.tx.now.conn.now in
-    let at_rules = state g.S.Store c.list.new.tx.conn.now in
-    let at_limits = state g.S.Store c.list-2.new.tx.conn.now in
+    let entry = seen g.T.Ledger.view c.args.tx.now in
+    let at_rules = seen g.T.Ledger.view c.list.new.tx in
+    let at_limits = seen g.T.Ledger.view c.list-2.new.tx in
     let clean_limits : HasCleanDisk at_limits = clean in
     let clean_rules : HasCleanDisk at_rules = omega (arith, clean_limits, c.list-2.ensures.rest.survives.clean) in
     let s0 = begins v2 entry has inside in

@@ -1,8 +1,8 @@
 use Rattle.std.proofs.Common.{◌≡◌, ◌∙◌, IsTrue, true, false, refl, sym, subst, arith}
 use Rattle.std.proofs.lemmas.Bool.{false≢true}
 use Rattle.std.specs.Prelude.{Contains, MatchBool, MatchOption}
-use Rattle.sqlite.specs.Held.{state}
 use Rattle.boxes.specs.State.{State as Office}
+use Rattle.sqltables.specs.Inside.{seen}
 use Rattle.sqltables.specs.Schema.{v1}
 use Rattle.sqlaudit.specs.Formats.{version_of}
 use Rattle.sqlaudit.specs.Lines.{AreLinesWhere, IsLater, IsPieceLine}
@@ -23,7 +23,7 @@ pub returns-then-not-fit_version-clause-found : goal.returns-then-not-fit_versio
 returns-then-not-fit_version-clause-found g c has whole running clean lines rowids of tables =
     let v = version_of c.args.format in
     let ours = is_version c.args.format in
-    let db = (state g.S.Store c.args.tx.now.conn.now).now in
+    let db = (seen g.T.Ledger.view c.args.tx.now).now in
     let lent : Lines = record { office = c.args.office; keys = c.deref.result; boxes = c.deref-2.result; receipts = c.deref-3.result; rules = c.deref-4.result; limits = c.deref-5.result } in
     let is : AreLent lent c.args.office.now c.args.listed.now = record { office = refl; keys = c.deref.ensures.value; boxes = c.deref-2.ensures.value; receipts = c.deref-3.ensures.value; rules = c.deref-4.ensures.value; limits = c.deref-5.ensures.value } in
     let are = are_listed v db lent c.args.office.now c.args.listed.now is lines rowids tables in
@@ -33,7 +33,7 @@ pub returns-then-not-sound-clause-found : goal.returns-then-not-sound-clause-fou
 returns-then-not-sound-clause-found g c has whole running clean lines rowids of tables =
     let v = version_of c.args.format in
     let ours = is_version c.args.format in
-    let db = (state g.S.Store c.args.tx.now.conn.now).now in
+    let db = (seen g.T.Ledger.view c.args.tx.now).now in
     let lent : Lines = record { office = c.args.office; keys = c.deref.result; boxes = c.deref-2.result; receipts = c.deref-3.result; rules = c.deref-4.result; limits = c.deref-5.result } in
     let is : AreLent lent c.args.office.now c.args.listed.now = record { office = refl; keys = c.deref.ensures.value; boxes = c.deref-2.ensures.value; receipts = c.deref-3.ensures.value; rules = c.deref-4.ensures.value; limits = c.deref-5.ensures.value } in
     let are = are_listed v db lent c.args.office.now c.args.listed.now is lines rowids tables in
@@ -44,7 +44,7 @@ pub returns-in_default-2-clause-found : goal.returns-in_default-2-clause-found
 returns-in_default-2-clause-found g c has whole running clean lines rowids of tables =
     let v = version_of c.args.format in
     let ours = is_version c.args.format in
-    let db = (state g.S.Store c.args.tx.now.conn.now).now in
+    let db = (seen g.T.Ledger.view c.args.tx.now).now in
     let lent : Lines = record { office = c.args.office; keys = c.deref.result; boxes = c.deref-2.result; receipts = c.deref-3.result; rules = c.deref-4.result; limits = c.deref-5.result } in
     let is : AreLent lent c.args.office.now c.args.listed.now = record { office = refl; keys = c.deref.ensures.value; boxes = c.deref-2.ensures.value; receipts = c.deref-3.ensures.value; rules = c.deref-4.ensures.value; limits = c.deref-5.ensures.value } in
     let are = are_listed v db lent c.args.office.now c.args.listed.now is lines rowids tables in
@@ -60,7 +60,7 @@ pub returns-then-not-have_totals-clause-found : goal.returns-then-not-have_total
 returns-then-not-have_totals-clause-found g c has whole running clean lines rowids of tables =
     let v = version_of c.args.format in
     let ours = is_version c.args.format in
-    let db = (state g.S.Store c.args.tx.now.conn.now).now in
+    let db = (seen g.T.Ledger.view c.args.tx.now).now in
     let lent : Lines = record { office = c.args.office; keys = c.deref.result; boxes = c.deref-2.result; receipts = c.deref-3.result; rules = c.deref-4.result; limits = c.deref-5.result } in
     let is : AreLent lent c.args.office.now c.args.listed.now = record { office = refl; keys = c.deref.ensures.value; boxes = c.deref-2.ensures.value; receipts = c.deref-3.ensures.value; rules = c.deref-4.ensures.value; limits = c.deref-5.ensures.value } in
     let are = are_listed v db lent c.args.office.now c.args.listed.now is lines rowids tables in
@@ -81,7 +81,7 @@ pub returns-clause-found : goal.returns-clause-found
 returns-clause-found g c has whole running clean lines rowids of tables =
     let v = version_of c.args.format in
     let ours = is_version c.args.format in
-    let db = (state g.S.Store c.args.tx.now.conn.now).now in
+    let db = (seen g.T.Ledger.view c.args.tx.now).now in
     let lent : Lines = record { office = c.args.office; keys = c.deref.result; boxes = c.deref-2.result; receipts = c.deref-3.result; rules = c.deref-4.result; limits = c.deref-5.result } in
     let is : AreLent lent c.args.office.now c.args.listed.now = record { office = refl; keys = c.deref.ensures.value; boxes = c.deref-2.ensures.value; receipts = c.deref-3.ensures.value; rules = c.deref-4.ensures.value; limits = c.deref-5.ensures.value } in
     let are = are_listed v db lent c.args.office.now c.args.listed.now is lines rowids tables in

@@ -1,7 +1,7 @@
 use Rattle.std.proofs.Common.{◌≡◌, ◌≢◌, rules, arith, refl, sym, subst, ◌∙◌}
+use Rattle.sqltables.specs.Inside.{seen}
 use Rattle.sqlite.specs.Effect.{Database}
 use Rattle.sqlite.specs.State.{HasCleanDisk}
-use Rattle.sqlite.specs.Held.{state}
 use Rattle.sqltables.specs.Schema.{Version}
 use Rattle.sqlaudit.specs.Lines.{AreLines, HaveRowids, IsOfficeLine}
 use Rattle.sqlaudit.specs.declared.opening.Extent.TheVariants.{Whole}
@@ -17,7 +17,7 @@ use Rattle.sqlaudit.proofs.opening.look.Goals as goal
 
 pub returns-in_default-clause-found : goal.returns-in_default-clause-found
 returns-in_default-clause-found g c premise inside clean =
-    let entry = state g.S.Store c.args.tx.now.conn.now in
+    let entry = seen g.T.Ledger.view c.args.tx.now in
     let running = c.in_ok-office.ensures.rest.running clean inside in
     let p = premise ((c.list_office.ensures.rest.uncommitted clean inside).was_open running.1) in
     let v = version_of c.args.format in
@@ -28,7 +28,7 @@ returns-in_default-clause-found g c premise inside clean =
 
 pub returns-then-line-number-clause-found : goal.returns-then-line-number-clause-found
 returns-then-line-number-clause-found g c premise inside clean =
-    let entry = state g.S.Store c.args.tx.now.conn.now in
+    let entry = seen g.T.Ledger.view c.args.tx.now in
     let running = c.in_ok-office.ensures.rest.running clean inside in
     let p = premise ((c.list_office.ensures.rest.uncommitted clean inside).was_open running.1) in
     let v = version_of c.args.format in
@@ -40,7 +40,7 @@ returns-then-line-number-clause-found g c premise inside clean =
 
 pub returns-then-ne-clause-found : goal.returns-then-ne-clause-found
 returns-then-ne-clause-found g c premise inside clean =
-    let entry = state g.S.Store c.args.tx.now.conn.now in
+    let entry = seen g.T.Ledger.view c.args.tx.now in
     let running = c.in_ok-office.ensures.rest.running clean inside in
     let p = premise ((c.list_office.ensures.rest.uncommitted clean inside).was_open running.1) in
     let v = version_of c.args.format in
@@ -54,9 +54,9 @@ returns-then-ne-clause-found g c premise inside clean =
 
 pub returns-clause-found : goal.returns-clause-found
 returns-clause-found g c premise inside clean =
-    let mid = state g.S.Store c.list_office.new.tx.conn.now in
+    let mid = seen g.T.Ledger.view c.list_office.new.tx in
     let early : HasCleanDisk mid = omega (arith, clean, c.look_at_all.ensures.rest.survives.clean) in
-    let entry = state g.S.Store c.args.tx.now.conn.now in
+    let entry = seen g.T.Ledger.view c.args.tx.now in
     let running = c.in_ok-office.ensures.rest.running early inside in
     let p = premise ((c.list_office.ensures.rest.uncommitted early inside).was_open running.1) in
     let v = version_of c.args.format in

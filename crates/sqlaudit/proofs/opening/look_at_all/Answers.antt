@@ -1,8 +1,8 @@
 use Rattle.std.proofs.Common.{◌≡◌, arith, sym, subst}
 use Rattle.std.specs.Prelude.{MatchBool}
+use Rattle.sqltables.specs.Inside.{seen}
 use Rattle.sqlite.specs.Effect.{Database}
 use Rattle.sqlite.specs.State.{HasCleanDisk}
-use Rattle.sqlite.specs.Held.{state}
 use Rattle.boxes.specs.State.{State as Office}
 use Rattle.sqlaudit.specs.Lines.{AreLines, HaveRowids, IsOfficeLine}
 use Rattle.sqlaudit.specs.Opened.{AreTables, AreOffice}
@@ -17,8 +17,8 @@ pub returns-clause-found : goal.returns-clause-found
 returns-clause-found g c has whole running clean lines rowids of =
     let v = version_of c.args.format in
     let ours = is_version c.args.format in
-    let entry = state g.S.Store c.args.tx.now.conn.now in
-    let mid = state g.S.Store c.list_all.new.tx.conn.now in
+    let entry = seen g.T.Ledger.view c.args.tx.now in
+    let mid = seen g.T.Ledger.view c.list_all.new.tx in
     let early : HasCleanDisk mid = omega (arith, clean, c.is_sound.ensures.rest.survives.clean) in
     let on = c.in_ok-listed.ensures.rest.running early running.0 in
     let still = goes_on v entry entry mid (begins v entry has running.0) (c.in_ok-listed.ensures.same has running.0 early) on (c.list_all.ensures.rest.uncommitted early running.0) in

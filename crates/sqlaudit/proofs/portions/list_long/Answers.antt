@@ -1,7 +1,7 @@
 use Rattle.std.proofs.Common.{◌≡◌, arith, sym, subst, ◌∙◌}
 use Rattle.std.specs.Prelude.{IfOk}
 use Rattle.std.proofs.lemmas.Result.{on_ok_weaker}
-use Rattle.sqlite.specs.Held.{state}
+use Rattle.sqltables.specs.Inside.{seen}
 use Rattle.sqlite.specs.State.{HasCleanDisk}
 use Rattle.sqlite.specs.Effect.{Database}
 use Rattle.sqltables.proofs.Results.{at_answer}
@@ -14,8 +14,8 @@ use Rattle.sqlaudit.proofs.portions.list_long.Goals as goal
 
 pub returns-clause-read : goal.returns-clause-read
 returns-clause-read g c v tree test show counts asks schema inside clean =
-    let entry = state g.S.Store c.args.tx.now.conn.now in
-    let mid = state g.S.Store c.list_numbers.new.tx.conn.now in
+    let entry = seen g.T.Ledger.view c.args.tx.now in
+    let mid = seen g.T.Ledger.view c.list_numbers.new.tx in
     let early : HasCleanDisk mid = omega (arith, clean, c.list_portions.ensures.rest.survives.clean) in
     let all = counted v c.args.rowids.now tree counts entry mid schema c.in_ok-numbers.numbers.items (c.in_ok-numbers.ensures.read early) in
     let running = c.in_ok-numbers.ensures.rest.running early inside in
@@ -26,17 +26,17 @@ returns-clause-read g c v tree test show counts asks schema inside clean =
 
 pub returns-clause-rowids : goal.returns-clause-rowids
 returns-clause-rowids g c v tree counts schema inside clean =
-    let entry = state g.S.Store c.args.tx.now.conn.now in
-    let mid = state g.S.Store c.list_numbers.new.tx.conn.now in
+    let entry = seen g.T.Ledger.view c.args.tx.now in
+    let mid = seen g.T.Ledger.view c.list_numbers.new.tx in
     let early : HasCleanDisk mid = omega (arith, clean, c.list_portions.ensures.rest.survives.clean) in
     let all = counted v c.args.rowids.now tree counts entry mid schema c.in_ok-numbers.numbers.items (c.in_ok-numbers.ensures.read early) in
     at_answer {P = HaveRowids (entry.now.trees tree)} c.list_portions.result all.have
 
 pub returns-clause-same : goal.returns-clause-same
 returns-clause-same g c v tree test show counts asks schema inside clean =
-    let entry = state g.S.Store c.args.tx.now.conn.now in
-    let mid = state g.S.Store c.list_numbers.new.tx.conn.now in
-    let now = state g.S.Store c.list_portions.new.tx.conn.now in
+    let entry = seen g.T.Ledger.view c.args.tx.now in
+    let mid = seen g.T.Ledger.view c.list_numbers.new.tx in
+    let now = seen g.T.Ledger.view c.list_portions.new.tx in
     let early : HasCleanDisk mid = omega (arith, clean, c.list_portions.ensures.rest.survives.clean) in
     let all = counted v c.args.rowids.now tree counts entry mid schema c.in_ok-numbers.numbers.items (c.in_ok-numbers.ensures.read early) in
     let running = c.in_ok-numbers.ensures.rest.running early inside in

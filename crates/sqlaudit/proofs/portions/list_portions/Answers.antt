@@ -1,5 +1,5 @@
 use Rattle.std.proofs.Common.{◌≡◌, ◌+◌, ◌++◌, ◌-◌, ◌≤◌, pos, get_or, to_z, of_z, w64, length, rules, refl, sym, subst, ◌∙◌, arith}
-use Rattle.sqlite.specs.Held.{state}
+use Rattle.sqltables.specs.Inside.{seen}
 use Rattle.sqlaudit.proofs.PortionRows.{Opens, Portioned, ReadsOn, none_read, read_on, all_read}
 use Rattle.sqltables.proofs.Onward.{and_then, failed, gave_up}
 use Rattle.sqlaudit.proofs.PortionRows.{portioned_goes}
@@ -7,14 +7,14 @@ use Rattle.sqlaudit.proofs.portions.list_portions.Goals as goal
 
 pub loop-at-init : goal.loop-at-init
 loop-at-init g c =
-    let entry = state g.S.Store c.args.tx.now.conn.now in
+    let entry = seen g.T.Ledger.view c.args.tx.now in
     (refl, subst (Portioned g.L.Line.reads c.args.sql.now entry entry c.args.numbers.now 0) (sym c.in_ok-lines.ensures.items) (none_read g.L.Line.reads c.args.sql.now entry c.args.numbers.now))
 
 pub loop-at-preserved : goal.loop-at-preserved
 loop-at-preserved g c =
-    let entry = state g.S.Store c.args.tx.now.conn.now in
-    let mid = state g.S.Store c.loop-at.tx.conn.now in
-    let now = state g.S.Store c.list_between.new.tx.conn.now in
+    let entry = seen g.T.Ledger.view c.args.tx.now in
+    let mid = seen g.T.Ledger.view c.loop-at.tx in
+    let now = seen g.T.Ledger.view c.list_between.new.tx in
     let numbers = c.args.numbers.now in
     let at = c.loop-at.at in
     let end = at + c.min.result in
@@ -35,14 +35,14 @@ loop-at-preserved g c =
 
 pub returns-clause-read : goal.returns-clause-read
 returns-clause-read g c v tree test show asks are schema running clean =
-    let entry = state g.S.Store c.args.tx.now.conn.now in
-    let now = state g.S.Store c.loop-at.tx.conn.now in
+    let entry = seen g.T.Ledger.view c.args.tx.now in
+    let now = seen g.T.Ledger.view c.loop-at.tx in
     let opens : Opens v c.args.sql.now tree test show entry = record { asks = asks; schema = schema; running = running } in
     all_read g.L.Line.reads c.args.sql.now entry now c.args.numbers.now c.loop-at.at c.loop-at.lines.items c.loop-at.invariant.1 c.loop-at-test.false v tree test show opens clean are
 
 pub returns-clause-same : goal.returns-clause-same
 returns-clause-same g c v tree test show asks schema running clean =
-    let entry = state g.S.Store c.args.tx.now.conn.now in
+    let entry = seen g.T.Ledger.view c.args.tx.now in
     let opens : Opens v c.args.sql.now tree test show entry = record { asks = asks; schema = schema; running = running } in
     c.loop-at.invariant.1.same v tree test show opens clean
 

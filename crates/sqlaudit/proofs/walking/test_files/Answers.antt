@@ -3,7 +3,7 @@ use Rattle.std.specs.Prelude.{Contains, MatchBool}
 use Rattle.boxes.specs.State.{place_cmp}
 use Rattle.boxes.proofs.Lookups.{place_total}
 use Rattle.boxes.proofs.FileTotals.{place_same}
-use Rattle.sqlite.specs.Held.{state}
+use Rattle.sqltables.specs.Inside.{seen}
 use Rattle.sqlite.specs.State.{HasCleanDisk}
 use Rattle.sqltables.specs.Schema.{Version}
 use Rattle.sqlaudit.specs.declared.lines.FileLine.{FileLine}
@@ -22,7 +22,7 @@ use Rattle.sqlaudit.proofs.walking.test_files.Goals as goal
 
 module _ (g : given.Over) (c : In_ok-lines g) where
   -- the files of this portion were read
-  reads_on : ReadsOn IsFileLine files_between (state g.S.Store c.loop-at.tx.conn.now) (state g.S.Store c.list_between.new.tx.conn.now) (get_or c.args.numbers.now c.loop-at.at (pos 0)) (get_or c.args.numbers.now (c.loop-at.at + c.min.result - 1) (pos 0)) c.in_ok-lines.lines.items
+  reads_on : ReadsOn IsFileLine files_between (seen g.T.Ledger.view c.loop-at.tx) (seen g.T.Ledger.view c.list_between.new.tx) (get_or c.args.numbers.now c.loop-at.at (pos 0)) (get_or c.args.numbers.now (c.loop-at.at + c.min.result - 1) (pos 0)) c.in_ok-lines.lines.items
   reads_on =
       let numbers = c.args.numbers.now in
       let at = c.loop-at.at in
@@ -42,7 +42,7 @@ module _ (g : given.Over) (c : In_ok-lines g) where
 
 pub loop-at-init : goal.loop-at-init
 loop-at-init g c =
-    let entry = state g.S.Store c.args.tx.now.conn.now in (
+    let entry = seen g.T.Ledger.view c.args.tx.now in (
       refl,
       record {
         done = [];
@@ -54,9 +54,9 @@ loop-at-init g c =
 
 pub returns-then-not-branch-clause-read : goal.returns-then-not-branch-clause-read
 returns-then-not-branch-clause-read g c rs held are v ours schema whole running clean =
-    let entry = state g.S.Store c.args.tx.now.conn.now in
-    let mid = state g.S.Store c.loop-at.tx.conn.now in
-    let now = state g.S.Store c.list_between.new.tx.conn.now in
+    let entry = seen g.T.Ledger.view c.args.tx.now in
+    let mid = seen g.T.Ledger.view c.loop-at.tx in
+    let now = seen g.T.Ledger.view c.list_between.new.tx in
     let numbers = c.args.numbers.now in
     let at = c.loop-at.at in
     let end = at + c.min.result in
@@ -72,9 +72,9 @@ returns-then-not-branch-clause-read g c rs held are v ours schema whole running 
 
 pub returns-then-not-branch-clause-same : goal.returns-then-not-branch-clause-same
 returns-then-not-branch-clause-same g c v ours schema whole running clean =
-    let entry = state g.S.Store c.args.tx.now.conn.now in
-    let mid = state g.S.Store c.loop-at.tx.conn.now in
-    let now = state g.S.Store c.list_between.new.tx.conn.now in
+    let entry = seen g.T.Ledger.view c.args.tx.now in
+    let mid = seen g.T.Ledger.view c.loop-at.tx in
+    let now = seen g.T.Ledger.view c.list_between.new.tx in
     let numbers = c.args.numbers.now in
     let at = c.loop-at.at in
     let end = at + c.min.result in
@@ -86,10 +86,10 @@ returns-then-not-branch-clause-same g c v ours schema whole running clean =
 
 pub returns-then-not-branch-2-clause-read : goal.returns-then-not-branch-2-clause-read
 returns-then-not-branch-2-clause-read g c rs held are v ours schema whole running clean =
-    let entry = state g.S.Store c.args.tx.now.conn.now in
-    let mid = state g.S.Store c.loop-at.tx.conn.now in
-    let now = state g.S.Store c.list_between.new.tx.conn.now in
-    let then = state g.S.Store c.have_bytes.new.tx.conn.now in
+    let entry = seen g.T.Ledger.view c.args.tx.now in
+    let mid = seen g.T.Ledger.view c.loop-at.tx in
+    let now = seen g.T.Ledger.view c.list_between.new.tx in
+    let then = seen g.T.Ledger.view c.have_bytes.new.tx in
     let given = c.args.receipts.now in
     let numbers = c.args.numbers.now in
     let at = c.loop-at.at in
@@ -112,10 +112,10 @@ returns-then-not-branch-2-clause-read g c rs held are v ours schema whole runnin
 
 pub returns-then-not-branch-2-clause-same : goal.returns-then-not-branch-2-clause-same
 returns-then-not-branch-2-clause-same g c v ours schema whole running clean =
-    let entry = state g.S.Store c.args.tx.now.conn.now in
-    let mid = state g.S.Store c.loop-at.tx.conn.now in
-    let now = state g.S.Store c.list_between.new.tx.conn.now in
-    let then = state g.S.Store c.have_bytes.new.tx.conn.now in
+    let entry = seen g.T.Ledger.view c.args.tx.now in
+    let mid = seen g.T.Ledger.view c.loop-at.tx in
+    let now = seen g.T.Ledger.view c.list_between.new.tx in
+    let then = seen g.T.Ledger.view c.have_bytes.new.tx in
     let given = c.args.receipts.now in
     let numbers = c.args.numbers.now in
     let at = c.loop-at.at in
@@ -136,10 +136,10 @@ returns-then-not-branch-2-clause-same g c v ours schema whole running clean =
 
 pub loop-at-preserved : goal.loop-at-preserved
 loop-at-preserved g c =
-    let entry = state g.S.Store c.args.tx.now.conn.now in
-    let mid = state g.S.Store c.loop-at.tx.conn.now in
-    let now = state g.S.Store c.list_between.new.tx.conn.now in
-    let then = state g.S.Store c.have_bytes.new.tx.conn.now in
+    let entry = seen g.T.Ledger.view c.args.tx.now in
+    let mid = seen g.T.Ledger.view c.loop-at.tx in
+    let now = seen g.T.Ledger.view c.list_between.new.tx in
+    let then = seen g.T.Ledger.view c.have_bytes.new.tx in
     let given = c.args.receipts.now in
     let numbers = c.args.numbers.now in
     let at = c.loop-at.at in
@@ -167,12 +167,12 @@ loop-at-preserved g c =
 
 pub returns-clause-read : goal.returns-clause-read
 returns-clause-read g c rs held are v ours schema whole running clean =
-    all_walked (state g.S.Store c.args.tx.now.conn.now) (state g.S.Store c.loop-at.tx.conn.now) c.args.receipts.now c.args.numbers.now c.loop-at.at (record { files = c.loop-at.files; sums = c.loop-at.sums }) c.loop-at.invariant.1 c.loop-at-test.false
+    all_walked (seen g.T.Ledger.view c.args.tx.now) (seen g.T.Ledger.view c.loop-at.tx) c.args.receipts.now c.args.numbers.now c.loop-at.at (record { files = c.loop-at.files; sums = c.loop-at.sums }) c.loop-at.invariant.1 c.loop-at-test.false
     rs held are v (record { version = ours; schema = schema; whole = whole; running = running }) clean
 
 pub returns-clause-same : goal.returns-clause-same
 returns-clause-same g c v ours schema whole running clean =
-    c.loop-at.invariant.1.portioned.same v 6 [] file_shown (opens_files v (state g.S.Store c.args.tx.now.conn.now) (record { version = ours; schema = schema; whole = whole; running = running })) clean
+    c.loop-at.invariant.1.portioned.same v 6 [] file_shown (opens_files v (seen g.T.Ledger.view c.args.tx.now) (record { version = ours; schema = schema; whole = whole; running = running })) clean
 
 pub returns-in_err-lines-clause-rest : goal.returns-in_err-lines-clause-rest
 returns-in_err-lines-clause-rest g c =

@@ -1,6 +1,6 @@
 use Rattle.std.proofs.Common.{arith, ◌≡◌, ◌∷◌, [], subst, Ok, w32, w64, to_z, of_z, rules}
+use Rattle.sqltables.specs.Inside.{seen}
 use Rattle.sqlite.specs.State.{HasCleanDisk, Executes}
-use Rattle.sqlite.specs.Held.{state}
 use Rattle.sqltables.proofs.Ours.{ours_of, says_of}
 use Rattle.sqlite_value.specs.declared.value.Value.TheVariants.{Int, Text}
 use Rattle.sqlite_value.specs.Order.{Row}
@@ -11,8 +11,8 @@ use Rattle.sqlchanges.proofs.box_rows.insert_values.Goals as goal
 
 pub returns-clause-done : goal.returns-clause-done
 returns-clause-done g c v tables b ours pends free are = ran_then c.run.result c.run.ensures.ran (λ clean run inside is_open.
-    let old = state g.S.Store c.args.tx.now.conn.now in
-    let new = state g.S.Store c.run.new.tx.conn.now in
+    let old = seen g.T.Ledger.view c.args.tx.now in
+    let new = seen g.T.Ledger.view c.run.new.tx in
     let early : HasCleanDisk old = omega (arith, c.run.ensures.rest.survives.clean) in
     let ran = rw (
       c.params-to_sql.ensures,

@@ -1,7 +1,7 @@
 use Rattle.std.proofs.Common.{sym, subst, OnOk, arith}
-use Rattle.sqlite.specs.Held.{state}
 use Rattle.boxes.specs.Steps.{CloseBox}
 use Rattle.boxes.specs.Changes.{IsObeyed}
+use Rattle.sqltables.specs.Inside.{seen}
 use Rattle.sqltables.specs.Tables.{tables_of}
 use Rattle.sqltables.specs.Means.{Pends}
 use Rattle.sqlchanges.proofs.Commands.{closes_box}
@@ -13,7 +13,7 @@ pub returns-clause-done : goal.returns-clause-done
 returns-clause-done g c v s after ours pends obeyed =
     let named = subst (λ name. IsObeyed s (CloseBox name c.args.moment) after) (sym c.in_ok-text_of.ensures) obeyed in
     let it = closes_box s c.in_ok-text_of.field-0.now c.args.moment after named in
-    subst (λ t. OnOk c.update_closes.result (Pends v (state g.S.Store c.update_closes.new.tx.conn.now) t)) (sym it.2)
+    subst (λ t. OnOk c.update_closes.result (Pends v (seen g.T.Ledger.view c.update_closes.new.tx) t)) (sym it.2)
     (c.update_closes.ensures.done v (tables_of s) it.0 c.args.moment ours pends it.1 (handed c.in-Ok.moment c.args.moment c.in-Ok.ensures.0 c.in-Ok.ensures.1))
 
 pub returns-in_default-clause-rest : goal.returns-in_default-clause-rest

@@ -1,5 +1,5 @@
 use Rattle.std.proofs.Common.{subst, OnOk, arith}
-use Rattle.sqlite.specs.Held.{state}
+use Rattle.sqltables.specs.Inside.{seen}
 use Rattle.sqltables.specs.Changes.{with_box, with_totals}
 use Rattle.sqltables.specs.Means.{Pends}
 use Rattle.sqlchanges.proofs.Numbers.{handed}
@@ -8,7 +8,7 @@ use Rattle.sqlchanges.proofs.changes.set_totals.Goals as goal
 
 pub returns-clause-done : goal.returns-clause-done
 returns-clause-done g c v tables b ours pends there =
-    subst (λ n. OnOk c.update_totals.result (Pends v (state g.S.Store c.update_totals.new.tx.conn.now) (with_box tables c.args.name.now (with_totals c.args.totals.used n b)))) c.in-Ok-Ok.ensures'.1
+    subst (λ n. OnOk c.update_totals.result (Pends v (seen g.T.Ledger.view c.update_totals.new.tx) (with_box tables c.args.name.now (with_totals c.args.totals.used n b)))) c.in-Ok-Ok.ensures'.1
     (c.update_totals.ensures.done v tables b c.args.totals.used ours pends there (handed c.in-Ok-Ok.used c.args.totals.used c.in-Ok-Ok.ensures.0 c.in-Ok-Ok.ensures.1))
 
 pub returns-in_default-clause-rest : goal.returns-in_default-clause-rest

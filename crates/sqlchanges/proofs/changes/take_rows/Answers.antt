@@ -16,10 +16,10 @@ returns-in_err-delete_pieces-clause-rest g c = failed c.from_residual.result c.d
 
 pub returns-in_err-delete_file-clause-rest : goal.returns-in_err-delete_file-clause-rest
 returns-in_err-delete_file-clause-rest g c =
-    let two = goes_on_then g.S.Store _ _ _ _ _ c.delete_pieces.ensures.rest c.delete_file.ensures.rest in
+    let two = goes_on_then g.T.Ledger.view _ _ _ _ _ c.delete_pieces.ensures.rest c.delete_file.ensures.rest in
     failed c.from_residual-in_err-delete_file.result two c.from_residual-in_err-delete_file.ensures.0
 
 pub returns-clause-rest : goal.returns-clause-rest
 returns-clause-rest g c =
-    let two = goes_on_then g.S.Store _ _ _ _ _ c.delete_pieces.ensures.rest c.delete_file.ensures.rest in
-    goes_on_then g.S.Store _ _ _ _ _ two c.set_totals.ensures.rest
+    let two = goes_on_then g.T.Ledger.view _ _ _ _ _ c.delete_pieces.ensures.rest c.delete_file.ensures.rest in
+    goes_on_then g.T.Ledger.view _ _ _ _ _ two c.set_totals.ensures.rest

@@ -33,7 +33,7 @@ returns-in_err-insert_pieces-clause-rest g c = failed c.from_residual-in_err-ins
 pub returns-clause-rest : goal.returns-clause-rest
 returns-clause-rest g c =
     let two = goes_on_maybe c.in_ok-write_rows.ensures.rest c.in_ok-insert_pieces.ensures.rest in
-    goes_on_then g.S.Store _ _ _ _ _ two c.set_totals.ensures.rest
+    goes_on_then g.T.Ledger.view _ _ _ _ _ two c.set_totals.ensures.rest
 
 pub insert_pieces-requires : goal.insert_pieces-requires
 insert_pieces-requires g c = grind arith

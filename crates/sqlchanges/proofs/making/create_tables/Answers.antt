@@ -16,37 +16,37 @@ returns-clause-done g c sees =
 
 pub returns-clause-rest : goal.returns-clause-rest
 returns-clause-rest g c =
-    let two = goes_on_then g.S.Store _ _ _ _ _ c.create_table.ensures.rest c.create_table-2.ensures.rest in
-    let three = goes_on_then g.S.Store _ _ _ _ _ two c.create_table-3.ensures.rest in
-    let four = goes_on_then g.S.Store _ _ _ _ _ three c.create_table-4.ensures.rest in
-    let five = goes_on_then g.S.Store _ _ _ _ _ four c.create_table-5.ensures.rest in
-    goes_on_then g.S.Store _ _ _ _ _ five c.create_table-6.ensures.rest
+    let two = goes_on_then g.T.Ledger.view _ _ _ _ _ c.create_table.ensures.rest c.create_table-2.ensures.rest in
+    let three = goes_on_then g.T.Ledger.view _ _ _ _ _ two c.create_table-3.ensures.rest in
+    let four = goes_on_then g.T.Ledger.view _ _ _ _ _ three c.create_table-4.ensures.rest in
+    let five = goes_on_then g.T.Ledger.view _ _ _ _ _ four c.create_table-5.ensures.rest in
+    goes_on_then g.T.Ledger.view _ _ _ _ _ five c.create_table-6.ensures.rest
 
 pub returns-in_err-create_table-clause-rest : goal.returns-in_err-create_table-clause-rest
 returns-in_err-create_table-clause-rest g c = failed c.from_residual.result c.create_table.ensures.rest c.from_residual.ensures.0
 
 pub returns-in_err-create_table-2-clause-rest : goal.returns-in_err-create_table-2-clause-rest
 returns-in_err-create_table-2-clause-rest g c =
-    let two = goes_on_then g.S.Store _ _ _ _ _ c.create_table.ensures.rest c.create_table-2.ensures.rest in
+    let two = goes_on_then g.T.Ledger.view _ _ _ _ _ c.create_table.ensures.rest c.create_table-2.ensures.rest in
     failed c.from_residual-in_err-create_table-2.result two c.from_residual-in_err-create_table-2.ensures.0
 
 pub returns-in_err-create_table-3-clause-rest : goal.returns-in_err-create_table-3-clause-rest
 returns-in_err-create_table-3-clause-rest g c =
-    let two = goes_on_then g.S.Store _ _ _ _ _ c.create_table.ensures.rest c.create_table-2.ensures.rest in
-    let three = goes_on_then g.S.Store _ _ _ _ _ two c.create_table-3.ensures.rest in
+    let two = goes_on_then g.T.Ledger.view _ _ _ _ _ c.create_table.ensures.rest c.create_table-2.ensures.rest in
+    let three = goes_on_then g.T.Ledger.view _ _ _ _ _ two c.create_table-3.ensures.rest in
     failed c.from_residual-in_err-create_table-3.result three c.from_residual-in_err-create_table-3.ensures.0
 
 pub returns-in_err-create_table-4-clause-rest : goal.returns-in_err-create_table-4-clause-rest
 returns-in_err-create_table-4-clause-rest g c =
-    let two = goes_on_then g.S.Store _ _ _ _ _ c.create_table.ensures.rest c.create_table-2.ensures.rest in
-    let three = goes_on_then g.S.Store _ _ _ _ _ two c.create_table-3.ensures.rest in
-    let four = goes_on_then g.S.Store _ _ _ _ _ three c.create_table-4.ensures.rest in
+    let two = goes_on_then g.T.Ledger.view _ _ _ _ _ c.create_table.ensures.rest c.create_table-2.ensures.rest in
+    let three = goes_on_then g.T.Ledger.view _ _ _ _ _ two c.create_table-3.ensures.rest in
+    let four = goes_on_then g.T.Ledger.view _ _ _ _ _ three c.create_table-4.ensures.rest in
     failed c.from_residual-in_err-create_table-4.result four c.from_residual-in_err-create_table-4.ensures.0
 
 pub returns-in_err-create_table-5-clause-rest : goal.returns-in_err-create_table-5-clause-rest
 returns-in_err-create_table-5-clause-rest g c =
-    let two = goes_on_then g.S.Store _ _ _ _ _ c.create_table.ensures.rest c.create_table-2.ensures.rest in
-    let three = goes_on_then g.S.Store _ _ _ _ _ two c.create_table-3.ensures.rest in
-    let four = goes_on_then g.S.Store _ _ _ _ _ three c.create_table-4.ensures.rest in
-    let five = goes_on_then g.S.Store _ _ _ _ _ four c.create_table-5.ensures.rest in
+    let two = goes_on_then g.T.Ledger.view _ _ _ _ _ c.create_table.ensures.rest c.create_table-2.ensures.rest in
+    let three = goes_on_then g.T.Ledger.view _ _ _ _ _ two c.create_table-3.ensures.rest in
+    let four = goes_on_then g.T.Ledger.view _ _ _ _ _ three c.create_table-4.ensures.rest in
+    let five = goes_on_then g.T.Ledger.view _ _ _ _ _ four c.create_table-5.ensures.rest in
     failed c.from_residual-in_err-create_table-5.result five c.from_residual-in_err-create_table-5.ensures.0

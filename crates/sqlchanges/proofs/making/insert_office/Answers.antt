@@ -1,6 +1,6 @@
 use Rattle.std.proofs.Common.{arith, ◌≡◌, w32, to_z, of_z}
+use Rattle.sqltables.specs.Inside.{seen}
 use Rattle.sqlite.specs.State.{HasCleanDisk}
-use Rattle.sqlite.specs.Held.{state}
 use Rattle.std.proofs.lemmas.Int.{to_z-of_z}
 use Rattle.sqlchanges.proofs.FirstRows.{puts_office}
 use Rattle.sqlchanges.proofs.Ran.{ran_then}
@@ -8,8 +8,8 @@ use Rattle.sqlchanges.proofs.making.insert_office.Goals as goal
 
 pub returns-clause-done : goal.returns-clause-done
 returns-clause-done g c sees = ran_then c.run.result c.run.ensures.ran (λ clean run inside is_open.
-    let old = state g.S.Store c.args.tx.now.conn.now in
-    let new = state g.S.Store c.run.new.tx.conn.now in
+    let old = seen g.T.Ledger.view c.args.tx.now in
+    let new = seen g.T.Ledger.view c.run.new.tx in
     let early : HasCleanDisk old = omega (arith, c.run.ensures.rest.survives.clean) in
     let east_is : to_z w32 (of_z w32 c.from.result) ≡ c.args.east = grind (arith, to_z-of_z, c.ranges.east.sfits, c.from.ensures) in
     let ran = rw (c.params-to_sql.ensures, east_is) at run.executed in

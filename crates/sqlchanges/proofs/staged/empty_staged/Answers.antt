@@ -2,10 +2,9 @@ use Rattle.std.proofs.Common.{◌≡◌, arith, sym, ap, subst, ◌∙◌}
 use Rattle.std.proofs.lemmas.Bool.{false≢true}
 use Rattle.sqlite.specs.Effect.{Database}
 use Rattle.sqlite.specs.State.{HasCleanDisk}
-use Rattle.sqlite.specs.Held.{state}
 use Rattle.sqltables.specs.Schema.{v2}
 use Rattle.sqltables.specs.Tables.{IsEmptied, NoneStaged}
-use Rattle.sqltables.specs.Inside.{HasSchema}
+use Rattle.sqltables.specs.Inside.{seen, HasSchema}
 use Rattle.sqltables.proofs.Onward.{begun_then, failed, followed, succeeded}
 use Rattle.sqlchanges.proofs.StagedRows.{emptied_itself}
 use Rattle.sqlchanges.proofs.Chained.{within}
@@ -13,16 +12,16 @@ use Rattle.sqlchanges.proofs.staged.empty_staged.Goals as goal
 
 pub returns-then-not-branch-clause-emptied : goal.returns-then-not-branch-clause-emptied
 returns-then-not-branch-clause-emptied g c has inside clean =
-    let old = state g.S.Store c.args.tx.now.conn.now in
-    let new = state g.S.Store c.has_staged.new.tx.conn.now in
+    let old = seen g.T.Ledger.view c.args.tx.now in
+    let new = seen g.T.Ledger.view c.has_staged.new.tx in
     emptied_itself old.now new.now (c.in_ok-has_staged.ensures.same has inside clean) ((c.in_ok-has_staged.ensures.found has inside clean).0 c.if-not-branch.true)
 
 pub returns-clause-emptied : goal.returns-clause-emptied
 returns-clause-emptied g c has inside clean =
-    let old = state g.S.Store c.args.tx.now.conn.now in
-    let asked = state g.S.Store c.has_staged.new.tx.conn.now in
-    let mid = state g.S.Store c.delete_staged.new.tx.conn.now in
-    let new = state g.S.Store c.has_staged-2.new.tx.conn.now in
+    let old = seen g.T.Ledger.view c.args.tx.now in
+    let asked = seen g.T.Ledger.view c.has_staged.new.tx in
+    let mid = seen g.T.Ledger.view c.delete_staged.new.tx in
+    let new = seen g.T.Ledger.view c.has_staged-2.new.tx in
     let mid_clean : HasCleanDisk mid = omega (arith, clean, c.has_staged-2.ensures.rest.survives.clean) in
     let asked_clean : HasCleanDisk asked = omega (arith, mid_clean, c.delete_staged.ensures.rest.survives.clean) in
     let still : asked.now ≡ old.now = c.in_ok-has_staged.ensures.same has inside asked_clean in
@@ -39,8 +38,8 @@ returns-clause-emptied g c has inside clean =
 
 pub returns-clause-same : goal.returns-clause-same
 returns-clause-same g c has inside clean none =
-    let asked = state g.S.Store c.has_staged.new.tx.conn.now in
-    let mid = state g.S.Store c.delete_staged.new.tx.conn.now in
+    let asked = seen g.T.Ledger.view c.has_staged.new.tx in
+    let mid = seen g.T.Ledger.view c.delete_staged.new.tx in
     let mid_clean : HasCleanDisk mid = omega (arith, clean, c.has_staged-2.ensures.rest.survives.clean) in
     let asked_clean : HasCleanDisk asked = omega (arith, mid_clean, c.delete_staged.ensures.rest.survives.clean) in
     absurd (false≢true (sym ((c.in_ok-has_staged.ensures.found has inside asked_clean).1 none) ∙ c.if-not-branch.false))

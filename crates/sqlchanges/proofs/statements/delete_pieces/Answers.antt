@@ -1,6 +1,6 @@
 use Rattle.std.proofs.Common.{arith}
+use Rattle.sqltables.specs.Inside.{seen}
 use Rattle.sqlite.specs.State.{HasCleanDisk}
-use Rattle.sqlite.specs.Held.{state}
 use Rattle.sqltables.proofs.Ours.{ours_of, says_of}
 use Rattle.sqltables.proofs.Texts.{delete_pieces, delete_pieces_command, delete_pieces_is}
 use Rattle.sqlchanges.proofs.PieceRows.{drops_pieces}
@@ -9,8 +9,8 @@ use Rattle.sqlchanges.proofs.statements.delete_pieces.Goals as goal
 
 pub returns-clause-done : goal.returns-clause-done
 returns-clause-done g c v tables ours pends = ran_then c.run.result c.run.ensures.ran (λ clean run inside is_open.
-    let old = state g.S.Store c.args.tx.now.conn.now in
-    let new = state g.S.Store c.run.new.tx.conn.now in
+    let old = seen g.T.Ledger.view c.args.tx.now in
+    let new = seen g.T.Ledger.view c.run.new.tx in
     let early : HasCleanDisk old = omega (arith, c.run.ensures.rest.survives.clean) in
     let ran = rw (c.params-to_sql.ensures, c.params-to_sql-2.ensures) at run.executed in
     let it = pends early run.inside ran.1.was_open in

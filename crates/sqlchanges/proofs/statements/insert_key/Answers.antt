@@ -1,6 +1,6 @@
 use Rattle.std.proofs.Common.{arith, ◌≡◌, ◌∷◌, [], ap, sym, subst, Ok, w32, to_z, ◌∙◌}
+use Rattle.sqltables.specs.Inside.{seen}
 use Rattle.sqlite.specs.State.{HasCleanDisk, Executes}
-use Rattle.sqlite.specs.Held.{state}
 use Rattle.sqltables.proofs.Ours.{ours_of, says_of}
 use Rattle.sqlite_value.specs.declared.value.Value.TheVariants.{Int, Text, Blob}
 use Rattle.sqlite_value.specs.Order.{Row}
@@ -13,8 +13,8 @@ use Rattle.sqlchanges.proofs.statements.insert_key.Goals as goal
 
 pub returns-clause-done : goal.returns-clause-done
 returns-clause-done g c v tables ours pends free = ran_then c.run.result c.run.ensures.ran (λ clean run inside is_open.
-    let old = state g.S.Store c.args.tx.now.conn.now in
-    let new = state g.S.Store c.run.new.tx.conn.now in
+    let old = seen g.T.Ledger.view c.args.tx.now in
+    let new = seen g.T.Ledger.view c.run.new.tx in
     let early : HasCleanDisk old = omega (arith, c.run.ensures.rest.survives.clean) in
     let number_is : to_z w32 c.match-role.number-bits ≡ role_number c.args.role = elim c.match-role.branch [ in-Link w ↦ w.number-is ∙ ap role_number (sym w.in-Link.is) | in-Clerk w ↦ w.number-is ∙ ap role_number (sym w.in-Clerk.is) ] in
     let ran = rw (c.params-to_sql.ensures, c.params-to_sql-2.ensures, c.params-to_sql-3.ensures) at run.executed in

@@ -1,7 +1,7 @@
 use Rattle.std.proofs.Common.{Bor, ℕ, List, option_map, ◌≡◌, ◌+◌, ◌*◌, ◌≤◌, length, Some, arith, sym, ap, subst, ◌∙◌, rules, refl}
+use Rattle.sqltables.specs.Inside.{seen}
 use Rattle.sqltables.proofs.Runs.{itself_keeps}
 use Rattle.sqlite.specs.State.{HasCleanDisk}
-use Rattle.sqlite.specs.Held.{state}
 use Rattle.boxes.specs.State.{Place}
 use Rattle.sqltables.specs.Tables.{piece_of}
 use Rattle.sqltables.specs.Changes.{with_pieces}
@@ -13,9 +13,9 @@ use Rattle.sqlchanges.proofs.statements.insert_pieces.Goals as goal
 
 pub loop-piece-preserved : goal.loop-piece-preserved
 loop-piece-preserved g c =
-    let entry = state g.S.Store c.args.tx.now.conn.now in
-    let mid = state g.S.Store c.loop-piece.tx.conn.now in
-    let new = state g.S.Store c.insert_piece.new.tx.conn.now in
+    let entry = seen g.T.Ledger.view c.args.tx.now in
+    let mid = seen g.T.Ledger.view c.loop-piece.tx in
+    let new = seen g.T.Ledger.view c.insert_piece.new.tx in
     let place : Place = record { box = c.args.box_name.now; name = c.args.name.now } in
     let bytes = held c.args.bytes.now in
     let count = c.loop-piece.part in
@@ -38,11 +38,11 @@ returns-clause-done g c v tables ours pends none =
     let place : Place = record { box = c.args.box_name.now; name = c.args.name.now } in
     let bytes = held c.args.bytes.now in
     let all : length bytes ≤ 65536 * c.loop-piece.part = none_left bytes c.loop-piece.part (search rules) in
-    subst (λ t. Pends v (state g.S.Store c.loop-piece.tx.conn.now) t) (all_pieces tables place bytes c.loop-piece.part all) (c.loop-piece.invariant.1.done v tables ours pends none)
+    subst (λ t. Pends v (seen g.T.Ledger.view c.loop-piece.tx) t) (all_pieces tables place bytes c.loop-piece.part all) (c.loop-piece.invariant.1.done v tables ours pends none)
 
 pub loop-piece-init : goal.loop-piece-init
 loop-piece-init g c =
-    let entry = state g.S.Store c.args.tx.now.conn.now in
+    let entry = seen g.T.Ledger.view c.args.tx.now in
     let place : Place = record { box = c.args.box_name.now; name = c.args.name.now } in (
       refl,
       record {

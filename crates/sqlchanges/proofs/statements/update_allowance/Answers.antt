@@ -1,14 +1,14 @@
 use Rattle.std.proofs.Common.{arith}
+use Rattle.sqltables.specs.Inside.{seen}
 use Rattle.sqlite.specs.State.{HasCleanDisk}
-use Rattle.sqlite.specs.Held.{state}
 use Rattle.sqlchanges.proofs.LimitRows.{sets_allowance}
 use Rattle.sqlchanges.proofs.Ran.{ran_then}
 use Rattle.sqlchanges.proofs.statements.update_allowance.Goals as goal
 
 pub returns-clause-done : goal.returns-clause-done
 returns-clause-done g c tables pends = ran_then c.run.result c.run.ensures.ran (λ clean run inside is_open.
-    let old = state g.S.Store c.args.tx.now.conn.now in
-    let new = state g.S.Store c.run.new.tx.conn.now in
+    let old = seen g.T.Ledger.view c.args.tx.now in
+    let new = seen g.T.Ledger.view c.run.new.tx in
     let early : HasCleanDisk old = omega (arith, c.run.ensures.rest.survives.clean) in
     let ran = rw (c.params-to_sql.ensures) at run.executed in
     let it = pends early run.inside ran.1.was_open in

@@ -1,6 +1,6 @@
 use Rattle.std.proofs.Common.{arith, ◌≡◌, ◌∷◌, [], subst, Ok, w64, to_z, of_z}
+use Rattle.sqltables.specs.Inside.{seen}
 use Rattle.sqlite.specs.State.{HasCleanDisk, Executes}
-use Rattle.sqlite.specs.Held.{state}
 use Rattle.sqltables.proofs.Ours.{ours_of, says_of}
 use Rattle.sqlite_value.specs.declared.value.Value.TheVariants.{Int, Text}
 use Rattle.sqlite_value.specs.Order.{Row}
@@ -12,8 +12,8 @@ use Rattle.sqlchanges.proofs.statements.update_closes.Goals as goal
 
 pub returns-clause-done : goal.returns-clause-done
 returns-clause-done g c v tables b second ours pends there moment = ran_then c.run.result c.run.ensures.ran (λ clean run inside is_open.
-    let old = state g.S.Store c.args.tx.now.conn.now in
-    let new = state g.S.Store c.run.new.tx.conn.now in
+    let old = seen g.T.Ledger.view c.args.tx.now in
+    let new = seen g.T.Ledger.view c.run.new.tx in
     let early : HasCleanDisk old = omega (arith, c.run.ensures.rest.survives.clean) in
     let moment_is : to_z w64 (of_z w64 c.args.moment) ≡ c.args.moment = to_z-of_z w64 c.args.moment c.ranges.moment in
     let ran = rw (c.params-to_sql.ensures, c.params-to_sql-2.ensures, moment_is) at run.executed in

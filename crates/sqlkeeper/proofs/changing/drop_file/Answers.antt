@@ -1,6 +1,6 @@
 use Rattle.std.proofs.Common.{◌≡◌, sym, subst, arith, ◌∙◌, OnOk}
+use Rattle.sqltables.specs.Inside.{seen}
 use Rattle.sqlite.specs.State.{HasCleanDisk}
-use Rattle.sqlite.specs.Held.{state}
 use Rattle.boxes.specs.State.{Place}
 use Rattle.boxes.specs.Steps.{DropFile}
 use Rattle.boxes.specs.Changes.{IsObeyed}
@@ -18,8 +18,8 @@ returns-clause-done g c v s after ours pends sound obeyed inside = given _ _ c.t
     let place : Place = record { box = c.in_ok-in_box.in_box.now; name = c.in_ok-name.name.now } in
     let same : place ≡ asked = λ i. record { box = c.in_ok-in_box.ensures i; name = c.in_ok-name.ensures i } in
     let named : IsObeyed s (DropFile place) after = subst (λ p. IsObeyed s (DropFile p) after) (sym same) obeyed in
-    let last : HasCleanDisk (state g.S.Store c.totals.new.tx.conn.now) = omega (arith, c.take_rows.ensures.rest.survives.clean) in
-    let first : HasCleanDisk (state g.S.Store c.standing_size.new.tx.conn.now) = omega (arith, c.in_ok-totals.ensures.rest.survives.clean) in
+    let last : HasCleanDisk (seen g.T.Ledger.view c.totals.new.tx) = omega (arith, c.take_rows.ensures.rest.survives.clean) in
+    let first : HasCleanDisk (seen g.T.Ledger.view c.standing_size.new.tx) = omega (arith, c.in_ok-totals.ensures.rest.survives.clean) in
     let size = sym (c.in_ok-size.ensures.found v s ours pends sound inside first) ∙ c.in-Some.is in
     let running = c.in_ok-size.ensures.rest.running first inside in
     let sized = c.in_ok-size.ensures.still v (tables_of s) ours pends in
@@ -31,7 +31,7 @@ returns-clause-done g c v s after ours pends sound obeyed inside = given _ _ c.t
     let counted = c.take_out-left.ensures s place file.0 held file.1 file.2 in
     let there : (tables_of s).box place.box ≡ _ = rw b.1 in
     let done = c.take_rows.ensures.done v (tables_of s) (row_of s place.box b.0) ours still there in
-    subst (λ t. OnOk c.take_rows.result (Pends v (state g.S.Store c.take_rows.new.tx.conn.now) t)) (dropped_tables s place after c.in-Some.size sound named size c.take_out-left.result counted) done)
+    subst (λ t. OnOk c.take_rows.result (Pends v (seen g.T.Ledger.view c.take_rows.new.tx) t)) (dropped_tables s place after c.in-Some.size sound named size c.take_out-left.result counted) done)
 
 pub returns-in_err-in_box-clause-rest : goal.returns-in_err-in_box-clause-rest
 returns-in_err-in_box-clause-rest g c = gave_up c.args.tx.now c.from_residual.result c.from_residual.ensures.0

@@ -1,8 +1,8 @@
 use Rattle.std.proofs.Common.{◌≡◌, ◌+◌, length, slice_get, is_some, None, rules, sym, refl, subst, arith, ◌∙◌, OnOk}
 use Rattle.std.specs.FinMap.{get}
 use Rattle.std.proofs.lemmas.Option.{slice_get_past}
+use Rattle.sqltables.specs.Inside.{seen}
 use Rattle.sqlite.specs.State.{HasCleanDisk}
-use Rattle.sqlite.specs.Held.{state}
 use Rattle.boxes.specs.State.{Place, File}
 use Rattle.boxes.specs.Steps.{receipt_of}
 use Rattle.boxes.specs.Changes.{upload_in}
@@ -21,8 +21,8 @@ returns-clause-done g c v s after ours pends sound set inside = given _ _ c.writ
     let place : Place = record { box = c.in_ok-in_box.in_box.now; name = c.in_ok-name.name.now } in
     let same : place ≡ (upload_in c.args.file.now bytes).place = λ i. record { box = c.in_ok-in_box.ensures i; name = c.in_ok-name.ensures i } in
     let b = in_box s c.args.file.now bytes after place same sound set in
-    let last : HasCleanDisk (state g.S.Store c.totals.new.tx.conn.now) = omega (arith, c.write_file.ensures.rest.survives.clean) in
-    let first : HasCleanDisk (state g.S.Store c.standing_size.new.tx.conn.now) = omega (arith, c.in_ok-totals.ensures.rest.survives.clean) in
+    let last : HasCleanDisk (seen g.T.Ledger.view c.totals.new.tx) = omega (arith, c.write_file.ensures.rest.survives.clean) in
+    let first : HasCleanDisk (seen g.T.Ledger.view c.standing_size.new.tx) = omega (arith, c.in_ok-totals.ensures.rest.survives.clean) in
     let old_is = c.in_ok-old.ensures.found v s ours pends sound inside first in
     let running = c.in_ok-old.ensures.rest.running first inside in
     let asked = c.in_ok-old.ensures.still v (tables_of s) ours pends in
@@ -37,7 +37,7 @@ returns-clause-done g c v s after ours pends sound set inside = given _ _ c.writ
     let stands : c.is_some.result ≡ is_some ((tables_of s).file place) = tested ∙ rw old_is (same_some _ _ (get s.files place)) in
     let r = receipt_of (upload s c.args.file.now bytes after place same sound set) in
     let done = c.write_file.ensures.done v (tables_of s) (row_of s place.box b.0) (length s.receipts) r ours still free stands there set.file.number refl refl (sym set.file.size) (sym set.file.digest) refl refl in
-    subst (λ t. OnOk c.write_file.result (Pends v (state g.S.Store c.write_file.new.tx.conn.now) t)) (set_tables s c.args.file.now bytes after place same sound set c.set-held.result counted) done)
+    subst (λ t. OnOk c.write_file.result (Pends v (seen g.T.Ledger.view c.write_file.new.tx) t)) (set_tables s c.args.file.now bytes after place same sound set c.set-held.result counted) done)
 
 pub returns-in_err-in_box-clause-rest : goal.returns-in_err-in_box-clause-rest
 returns-in_err-in_box-clause-rest g c = gave_up c.args.tx.now c.from_residual.result c.from_residual.ensures.0

@@ -1,7 +1,7 @@
 use Rattle.std.proofs.Common.{Bor, ℕ, List, option_map, ◌≡◌, ◌+◌, ◌*◌, ◌≤◌, length, Some, arith, refl, sym, ap, subst, ◌∙◌, rules}
 use Rattle.std.proofs.lemmas.Bool.{false≢true}
+use Rattle.sqltables.specs.Inside.{seen}
 use Rattle.sqlite.specs.State.{HasCleanDisk}
-use Rattle.sqlite.specs.Held.{state}
 use Rattle.boxes.specs.State.{Place}
 use Rattle.sqltables.specs.Tables.{piece_of}
 use Rattle.sqltables.specs.Staging.{held}
@@ -14,13 +14,13 @@ use Rattle.sqlquestions.proofs.comparing.has_pieces.Goals as goal
 pub loop-piece-init : goal.loop-piece-init
 loop-piece-init g c =
     let place : Place = record { box = c.args.in_box.now; name = c.args.name.now } in
-    (refl, none_compared (state g.S.Store c.args.tx.now.conn.now) place (held c.args.bytes.now))
+    (refl, none_compared (seen g.T.Ledger.view c.args.tx.now) place (held c.args.bytes.now))
 
 pub loop-piece-preserved : goal.loop-piece-preserved
 loop-piece-preserved g c =
-    let entry = state g.S.Store c.args.tx.now.conn.now in
-    let mid = state g.S.Store c.loop-piece.tx.conn.now in
-    let new = state g.S.Store c.is_piece.new.tx.conn.now in
+    let entry = seen g.T.Ledger.view c.args.tx.now in
+    let mid = seen g.T.Ledger.view c.loop-piece.tx in
+    let new = seen g.T.Ledger.view c.is_piece.new.tx in
     let place : Place = record { box = c.args.in_box.now; name = c.args.name.now } in
     let bytes = held c.args.bytes.now in
     let count = c.loop-piece.part in
@@ -38,7 +38,7 @@ loop-piece-preserved g c =
 
 pub returns-then-not-branch-clause-found : goal.returns-then-not-branch-clause-found
 returns-then-not-branch-clause-found g c v tables there ours pends size pieces inside clean =
-    let mid = state g.S.Store c.loop-piece.tx.conn.now in
+    let mid = seen g.T.Ledger.view c.loop-piece.tx in
     let place : Place = record { box = c.args.in_box.now; name = c.args.name.now } in
     let bytes = held c.args.bytes.now in
     let count = c.loop-piece.part in

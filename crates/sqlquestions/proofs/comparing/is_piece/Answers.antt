@@ -3,8 +3,8 @@ use Rattle.std.proofs.lemmas.Bool.{false≢true}
 use Rattle.std.specs.Prelude.{◌↔◌}
 use Rattle.sigtext.specs.Bytes.{same_bytes}
 use Rattle.boxes.proofs.FileTotals.{texts_alike, same_as_itself}
+use Rattle.sqltables.specs.Inside.{seen}
 use Rattle.sqlite.specs.State.{HasCleanDisk}
-use Rattle.sqlite.specs.Held.{state}
 use Rattle.boxes.specs.State.{Place}
 use Rattle.sqltables.specs.Pieces.{IsPieceAt, HasPiece}
 use Rattle.sqlquestions.proofs.Compared.{piece_there, no_piece_there}
@@ -19,8 +19,8 @@ one_text a b e = cc
 
 pub returns-in-Some-clause-found : goal.returns-in-Some-clause-found
 returns-in-Some-clause-found g c v tables ours pends inside clean =
-    let old = state g.S.Store c.args.tx.now.conn.now in
-    let new = state g.S.Store c.read_piece.new.tx.conn.now in
+    let old = seen g.T.Ledger.view c.args.tx.now in
+    let new = seen g.T.Ledger.view c.read_piece.new.tx in
     let place : Place = record { box = c.args.in_box.now; name = c.args.name.now } in
     let early : HasCleanDisk old = omega (arith, clean, c.read_piece.ensures.rest.survives.clean) in
     let was_open = (c.read_piece.ensures.rest.uncommitted clean inside).was_open (c.in_ok-piece.ensures.rest.running clean inside).1 in
@@ -33,8 +33,8 @@ returns-in-Some-clause-found g c v tables ours pends inside clean =
 
 pub returns-in-None-clause-found : goal.returns-in-None-clause-found
 returns-in-None-clause-found g c v tables ours pends inside clean =
-    let old = state g.S.Store c.args.tx.now.conn.now in
-    let new = state g.S.Store c.read_piece.new.tx.conn.now in
+    let old = seen g.T.Ledger.view c.args.tx.now in
+    let new = seen g.T.Ledger.view c.read_piece.new.tx in
     let place : Place = record { box = c.args.in_box.now; name = c.args.name.now } in
     let early : HasCleanDisk old = omega (arith, clean, c.read_piece.ensures.rest.survives.clean) in
     let was_open = (c.read_piece.ensures.rest.uncommitted clean inside).was_open (c.in_ok-piece.ensures.rest.running clean inside).1 in

@@ -1,6 +1,6 @@
 use Rattle.std.proofs.Common.{arith, refl}
+use Rattle.sqltables.specs.Inside.{seen}
 use Rattle.sqlite.specs.State.{HasCleanDisk}
-use Rattle.sqlite.specs.Held.{state}
 use Rattle.sqltables.specs.Schema.{v2}
 use Rattle.sqlquestions.specs.Following.{bytes_in}
 use Rattle.sqlquestions.proofs.FollowingTexts.{limit_after, limit_after_is}
@@ -10,8 +10,8 @@ use Rattle.sqlquestions.proofs.following.limit_after.Goals as goal
 
 pub returns-clause-found : goal.returns-clause-found
 returns-clause-found g c tables pends inside clean =
-    let old = state g.S.Store c.args.tx.now.conn.now in
-    let new = state g.S.Store c.select_text.new.tx.conn.now in
+    let old = seen g.T.Ledger.view c.args.tx.now in
+    let new = seen g.T.Ledger.view c.select_text.new.tx in
     let early : HasCleanDisk old = omega (arith, c.select_text.ensures.rest.survives.clean) in
     finds_first _ _ _ _ _ _ _ (follows_limit tables c.args.id.now c.args.after.now) v2 12 _ limit_after limit_after_is old new tables (λ db. refl) (λ m. m.limits refl) inside (pends early inside) bytes_in
     c.select_text.result (rw (c.params-to_sql.ensures, c.params-to_sql-2.ensures) at (c.select_text.ensures.shown clean))

@@ -1,6 +1,6 @@
 use Rattle.std.proofs.Common.{inl, inr, IsTrue, arith, sym, subst}
+use Rattle.sqltables.specs.Inside.{seen}
 use Rattle.sqlite.specs.State.{HasCleanDisk}
-use Rattle.sqlite.specs.Held.{state}
 use Rattle.boxes.specs.State.{Place}
 use Rattle.sqltables.specs.Means.{Holds}
 use Rattle.sqltables.specs.Pieces.{AreBytesOf, AreFound}
@@ -9,7 +9,7 @@ use Rattle.sqlquestions.proofs.questions.file_bytes.Goals as goal
 
 pub returns-in-Some-clause-found : goal.returns-in-Some-clause-found
 returns-in-Some-clause-found g c v tables bytes ours pends size pieces inside clean =
-    let old = state g.S.Store c.args.tx.now.conn.now in
+    let old = seen g.T.Ledger.view c.args.tx.now in
     let place : Place = record { box = c.args.in_box.now; name = c.args.name.now } in
     let early : HasCleanDisk old = omega (arith, clean, c.read_file.ensures.rest.survives.clean) in
     let found = c.in-Some.bytes.items in
@@ -22,7 +22,7 @@ returns-in-Some-clause-found g c v tables bytes ours pends size pieces inside cl
 
 pub returns-in-Some-clause-still : goal.returns-in-Some-clause-still
 returns-in-Some-clause-still g c v tables ours pends clean inside is_open =
-    let old = state g.S.Store c.args.tx.now.conn.now in
+    let old = seen g.T.Ledger.view c.args.tx.now in
     let early : HasCleanDisk old = omega (arith, clean, c.read_file.ensures.rest.survives.clean) in
     let was_in : IsTrue old.in_transaction = subst IsTrue (c.in_ok-bytes.ensures.mode clean) inside in
     let was_open = (c.read_file.ensures.rest.uncommitted clean was_in).was_open is_open in

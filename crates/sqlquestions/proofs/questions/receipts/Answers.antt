@@ -1,7 +1,7 @@
 use Rattle.std.proofs.Common.{◌≡◌, ◌+◌, ◌-◌, ◌<◌, ◌≤◌, length, take, drop, arith, ap, ◌∙◌, rules}
 use Rattle.std.proofs.lemmas.List.{length_push}
+use Rattle.sqltables.specs.Inside.{seen}
 use Rattle.sqlite.specs.State.{HasCleanDisk}
-use Rattle.sqlite.specs.Held.{state}
 use Rattle.boxes.specs.Rows.{numbered}
 use Rattle.sqlquestions.proofs.ManyQuestions.{unmoved_and, unmoved_goes, unmoved_then, lists_more, lists_all, no_more, digests_at, receipt_at}
 use Rattle.sqltables.proofs.Onward.{failed, followed, succeeded}
@@ -9,7 +9,7 @@ use Rattle.sqlquestions.proofs.questions.receipts.Goals as goal
 
 pub returns-in_default-clause-found : goal.returns-in_default-clause-found
 returns-in_default-clause-found g c v tables receipts ours pends listed good inside clean =
-    let mid = state g.S.Store c.loop-tx.tx.conn.now in
+    let mid = seen g.T.Ledger.view c.loop-tx.tx in
     let i = c.loop-tx.invariant in
     let at = c.args.from - 1 + length c.loop-tx.rows.items in
     let early : HasCleanDisk mid = omega (arith, c.in_ok-row.ensures.rest.survives.clean) in
@@ -22,9 +22,9 @@ returns-in_default-clause-still g c v tables ours pends = c.in_ok-row.ensures.st
 
 pub loop-tx-preserved : goal.loop-tx-preserved
 loop-tx-preserved g c =
-    let entry = state g.S.Store c.args.tx.now.conn.now in
-    let mid = state g.S.Store c.loop-tx.tx.conn.now in
-    let new = state g.S.Store c.receipt.new.tx.conn.now in
+    let entry = seen g.T.Ledger.view c.args.tx.now in
+    let mid = seen g.T.Ledger.view c.loop-tx.tx in
+    let new = seen g.T.Ledger.view c.receipt.new.tx in
     let i = c.loop-tx.invariant in
     let e = c.in_ok-row.ensures in
     let rows = c.loop-tx.rows.items in

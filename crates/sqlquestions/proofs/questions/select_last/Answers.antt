@@ -1,6 +1,6 @@
 use Rattle.std.proofs.Common.{arith}
+use Rattle.sqltables.specs.Inside.{seen}
 use Rattle.sqlite.specs.State.{HasCleanDisk}
-use Rattle.sqlite.specs.Held.{state}
 use Rattle.sqltables.proofs.Ours.{asks_of}
 use Rattle.sqltables.proofs.Texts.{next_number, next_number_command, next_number_is}
 use Rattle.sqltables.proofs.Asked.{query_stays}
@@ -9,14 +9,14 @@ use Rattle.sqlquestions.proofs.questions.select_last.Goals as goal
 
 pub returns-clause-found : goal.returns-clause-found
 returns-clause-found g c v tables receipts ours pends listed inside clean =
-    let old = state g.S.Store c.args.tx.now.conn.now in
-    let new = state g.S.Store c.query.new.tx.conn.now in
+    let old = seen g.T.Ledger.view c.args.tx.now in
+    let new = seen g.T.Ledger.view c.query.new.self in
     let early : HasCleanDisk old = omega (arith, c.query.ensures.rest.survives.clean) in
     shows_last (λ v. v.items) c.query.result v (asks_of v ours next_number next_number_command next_number_is) old new tables receipts inside (pends early inside) listed (c.query.ensures.ok clean)
 
 pub returns-clause-still : goal.returns-clause-still
 returns-clause-still g c v tables ours pends =
-    let old = state g.S.Store c.args.tx.now.conn.now in
-    let new = state g.S.Store c.query.new.tx.conn.now in
+    let old = seen g.T.Ledger.view c.args.tx.now in
+    let new = seen g.T.Ledger.view c.query.new.self in
     let early : HasCleanDisk new → HasCleanDisk old = λ clean. omega (arith, c.query.ensures.rest.survives.clean) in
     query_stays (λ v. v.items) v tables next_number _ old new c.query.result (asks_of v ours next_number next_number_command next_number_is).says.plain early pends c.query.ensures.ok

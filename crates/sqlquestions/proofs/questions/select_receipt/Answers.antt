@@ -1,8 +1,8 @@
 use Rattle.std.proofs.Common.{◌≡◌, ◌+◌, ℤ, pos, [], ◌∷◌, IfOk, FitsSigned, w64, to_z, of_z, arith, refl, sym, ap, subst, ◌∙◌}
 use Rattle.std.proofs.lemmas.Int.{to_z-of_z}
+use Rattle.sqltables.specs.Inside.{seen}
 use Rattle.sqlite_value.specs.declared.value.Value.TheVariants.{Int}
 use Rattle.sqlite.specs.State.{HasCleanDisk}
-use Rattle.sqlite.specs.Held.{state}
 use Rattle.sqltables.specs.Questions.{ShowsRow}
 use Rattle.sqltables.proofs.Ours.{asks_of}
 use Rattle.sqltables.proofs.Texts.{select_receipt, select_receipt_command, select_receipt_is}
@@ -13,8 +13,8 @@ use Rattle.sqlquestions.proofs.questions.select_receipt.Goals as goal
 
 pub returns-clause-found : goal.returns-clause-found
 returns-clause-found g c v tables at ours pends number inside clean =
-    let old = state g.S.Store c.args.tx.now.conn.now in
-    let new = state g.S.Store c.select_row.new.tx.conn.now in
+    let old = seen g.T.Ledger.view c.args.tx.now in
+    let new = seen g.T.Ledger.view c.select_row.new.tx in
     let early : HasCleanDisk old = omega (arith, c.select_row.ensures.rest.survives.clean) in
     let fits : FitsSigned w64 c.in-Ok.number = subst (FitsSigned w64) (sym c.in-Ok.ensures.1) c.in-Ok.ensures.0 in
     let same : to_z w64 (of_z w64 c.in-Ok.number) ≡ pos (at + 1) = to_z-of_z w64 c.in-Ok.number fits ∙ c.in-Ok.ensures.1 ∙ ap pos number in

@@ -1,7 +1,7 @@
 use Rattle.std.proofs.Common.{◌≡◌, ◌+◌, arith, sym, subst, vec_len, MatchOption}
+use Rattle.sqltables.specs.Inside.{seen}
 use Rattle.sqlite_rules.specs.Lists.{Has}
 use Rattle.sqlite.specs.State.{HasCleanDisk}
-use Rattle.sqlite.specs.Held.{state}
 use Rattle.sqltables.proofs.Asked.{no_items, last_has, still_pends}
 use Rattle.sqlquestions.proofs.questions.select_row.Goals as goal
 
@@ -15,8 +15,8 @@ returns-clause-shown g c clean = let rows = c.in_ok-rows.rows in record {
 
 pub returns-clause-still : goal.returns-clause-still
 returns-clause-still g c v tables plain pends clean inside is_open =
-    let old = state g.S.Store c.args.tx.now.conn.now in
-    let new = state g.S.Store c.query.new.tx.conn.now in
+    let old = seen g.T.Ledger.view c.args.tx.now in
+    let new = seen g.T.Ledger.view c.query.new.self in
     let early : HasCleanDisk old = omega (arith, c.query.ensures.rest.survives.clean) in
     still_pends v tables c.args.sql.now _ old new c.in_ok-rows.rows.items plain early pends (c.in_ok-rows.ensures.ok clean) inside
 

@@ -1,6 +1,6 @@
 use Rattle.std.proofs.Common.{Some, arith, refl, subst}
+use Rattle.sqltables.specs.Inside.{seen}
 use Rattle.sqlite.specs.State.{HasCleanDisk}
-use Rattle.sqlite.specs.Held.{state}
 use Rattle.boxes.specs.State.{Place}
 use Rattle.boxes.specs.Views.{IsReceiptAt}
 use Rattle.sqltables.specs.Tables.{tables_of}
@@ -12,7 +12,7 @@ pub returns-clause-found : goal.returns-clause-found
 returns-clause-found g c v s ours pends sound inside clean =
     let place : Place = record { box = c.args.in_box.now; name = c.args.name.now } in
     let r = c.in-Some.receipt in
-    let early : HasCleanDisk (state g.S.Store c.standing_receipt.new.tx.conn.now) = omega (arith, c.file_bytes.ensures.rest.survives.clean) in
+    let early : HasCleanDisk (seen g.T.Ledger.view c.standing_receipt.new.tx) = omega (arith, c.file_bytes.ensures.rest.survives.clean) in
     let found : IsReceiptAt s place (Some r) = subst (IsReceiptAt s place) c.in-Some.is (c.in_ok-receipt.ensures.found v s ours pends sound inside early) in
     let still = c.in_ok-receipt.ensures.still v (tables_of s) ours pends in
     let running = c.in_ok-receipt.ensures.rest.running early inside in

@@ -2,8 +2,8 @@ use Rattle.std.proofs.Common.{◌≡◌, ℕ, List, length, Option, Some, None, 
 use Rattle.std.proofs.lemmas.Bool.{false≢true}
 use Rattle.std.specs.Prelude.{◌↔◌, IsSomeAnd}
 use Rattle.std.specs.FinMap.{get}
+use Rattle.sqltables.specs.Inside.{seen}
 use Rattle.sqlite.specs.State.{HasCleanDisk}
-use Rattle.sqlite.specs.Held.{state}
 use Rattle.boxes.specs.State.{Place, File, State}
 use Rattle.boxes.specs.Rules.{HasBytes}
 use Rattle.sqltables.specs.Tables.{tables_of, piece_of}
@@ -55,7 +55,7 @@ pub returns-clause-found : goal.returns-clause-found
 returns-clause-found g c v s ours pends sound inside clean =
     let place : Place = record { box = c.args.in_box.now; name = c.args.name.now } in
     let bytes : List ℕ = held c.args.bytes.now in
-    let early : HasCleanDisk (state g.S.Store c.standing_size.new.tx.conn.now) = omega (arith, clean, c.has_pieces.ensures.rest.survives.clean) in
+    let early : HasCleanDisk (seen g.T.Ledger.view c.standing_size.new.tx) = omega (arith, clean, c.has_pieces.ensures.rest.survives.clean) in
     let told = subst (λ (o : Option ℕ). o ≡ option_map (λ (f : File). length f.bytes) (get s.files place)) c.in-Some.is (c.in_ok-size.ensures.found v s ours pends sound inside early) in
     let it = stands s place c.in-Some.size told in
     let just = has_just s place it.file bytes it.there in

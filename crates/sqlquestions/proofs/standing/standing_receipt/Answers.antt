@@ -1,6 +1,6 @@
 use Rattle.std.proofs.Common.{◌≡◌, Some, arith, sym, ◌∙◌}
+use Rattle.sqltables.specs.Inside.{seen}
 use Rattle.sqlite.specs.State.{HasCleanDisk}
-use Rattle.sqlite.specs.Held.{state}
 use Rattle.boxes.specs.State.{Place}
 use Rattle.boxes.specs.Views.{IsReceiptAt}
 use Rattle.std.proofs.Common.{slice_get}
@@ -13,7 +13,7 @@ use Rattle.sqlquestions.proofs.standing.standing_receipt.Goals as goal
 pub returns-in-Some-clause-found : goal.returns-in-Some-clause-found
 returns-in-Some-clause-found g c v s ours pends sound inside clean =
     let place : Place = record { box = c.args.in_box.now; name = c.args.name.now } in
-    let early : HasCleanDisk (state g.S.Store c.file_number.new.tx.conn.now) = omega (arith, c.receipt.ensures.rest.survives.clean) in
+    let early : HasCleanDisk (seen g.T.Ledger.view c.file_number.new.tx) = omega (arith, c.receipt.ensures.rest.survives.clean) in
     let is : (tables_of s).file place ≡ Some c.in-Some.number = sym (c.in_ok-number.ensures.found v (tables_of s) ours pends inside early) ∙ c.in-Some.is in
     let it = standing s place c.in-Some.number is in
     let at = (kept s sound place c.in-Some.number it).listed.place in

@@ -1,6 +1,6 @@
 use Rattle.std.proofs.Common.{◌≡◌, ◌+◌, ◌-◌, ◌<◌, ◌++◌, length, min, arith, rules, sym, ap, subst, subst₂, ◌∙◌, refl}
-use Rattle.sqlite.specs.Held.{state}
 use Rattle.boxes.specs.State.{Place}
+use Rattle.sqltables.specs.Inside.{seen}
 use Rattle.sqlite.specs.State.{HasCleanDisk}
 use Rattle.sqltables.specs.Pieces.{IsPieceAt}
 use Rattle.sqltables.proofs.Gathering.{Gathered, ReadsNext, OpensOurs, gathers, ours_at, whole_at, no_bytes, none_gathered}
@@ -11,15 +11,15 @@ use Rattle.sqltables.proofs.pieces.read_file.Goals as goal
 pub loop-tx-init : goal.loop-tx-init
 loop-tx-init g c =
     let place : Place = record { box = c.args.in_box.now; name = c.args.name.now } in
-    let entry = state g.S.Store c.args.tx.now.conn.now in
+    let entry = seen g.T.Ledger.view c.args.tx.now in
     (refl, subst (λ bytes. Gathered entry entry place c.args.size bytes 0) (sym c.in_ok-bytes.ensures.items) (none_gathered entry place c.args.size))
 
 pub loop-tx-preserved : goal.loop-tx-preserved
 loop-tx-preserved g c =
     let place : Place = record { box = c.args.in_box.now; name = c.args.name.now } in
-    let entry = state g.S.Store c.args.tx.now.conn.now in
-    let mid = state g.S.Store c.loop-tx.tx.conn.now in
-    let now = state g.S.Store c.read_piece.new.tx.conn.now in
+    let entry = seen g.T.Ledger.view c.args.tx.now in
+    let mid = seen g.T.Ledger.view c.loop-tx.tx in
+    let now = seen g.T.Ledger.view c.read_piece.new.tx in
     let bytes = c.loop-tx.bytes.items in
     let piece = c.in-Some.piece.items in
     let next : ReadsNext mid now place c.loop-tx.part piece = record {
@@ -39,8 +39,8 @@ loop-tx-preserved g c =
 pub returns-in_default-clause-read : goal.returns-in_default-clause-read
 returns-in_default-clause-read g c v ours has whole inside clean =
     let place : Place = record { box = c.args.in_box.now; name = c.args.name.now } in
-    let entry = state g.S.Store c.args.tx.now.conn.now in
-    let mid = state g.S.Store c.loop-tx.tx.conn.now in
+    let entry = seen g.T.Ledger.view c.args.tx.now in
+    let mid = seen g.T.Ledger.view c.loop-tx.tx in
     let bytes = c.loop-tx.bytes.items in
     let first : OpensOurs v entry = record { version = ours; schema = has; inside = inside } in
     let early : HasCleanDisk mid = omega (arith, clean, c.read_piece.ensures.rest.survives.clean) in

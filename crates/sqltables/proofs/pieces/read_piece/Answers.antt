@@ -1,6 +1,6 @@
 use Rattle.std.proofs.Common.{◌≡◌, Some, slice_get, sym, ap, ◌∙◌, arith}
+use Rattle.sqltables.specs.Inside.{seen}
 use Rattle.sqlite_rules.proofs.ListLemmas.{has_got}
-use Rattle.sqlite.specs.Held.{state}
 use Rattle.boxes.specs.State.{Place}
 use Rattle.sqltables.proofs.Ours.{asks_of}
 use Rattle.sqltables.proofs.Runs.{shown_runs}
@@ -11,8 +11,8 @@ use Rattle.sqltables.proofs.pieces.read_piece.Goals as goal
 
 pub returns-clause-read : goal.returns-clause-read
 returns-clause-read g c v ours has whole inside clean =
-    let old = state g.S.Store c.args.tx.now.conn.now in
-    let new = state g.S.Store c.query.new.tx.conn.now in
+    let old = seen g.T.Ledger.view c.args.tx.now in
+    let new = seen g.T.Ledger.view c.query.new.self in
     let place : Place = record { box = c.args.in_box.now; name = c.args.name.now } in
     let shown = rw (c.params-to_sql.ensures, c.params-to_sql-2.ensures, c.params-to_sql-3.ensures) at (c.in_ok-rows.ensures.ok clean) in
     let is_open = shown_open select_piece (given c.args.in_box.now c.args.name.now c.args.part) old new c.in_ok-rows.rows.items shown in
@@ -22,8 +22,8 @@ returns-clause-read g c v ours has whole inside clean =
 
 pub returns-in_default-clause-read : goal.returns-in_default-clause-read
 returns-in_default-clause-read g c v ours has whole inside clean =
-    let old = state g.S.Store c.args.tx.now.conn.now in
-    let new = state g.S.Store c.query.new.tx.conn.now in
+    let old = seen g.T.Ledger.view c.args.tx.now in
+    let new = seen g.T.Ledger.view c.query.new.self in
     let shown = rw (c.params-to_sql.ensures, c.params-to_sql-2.ensures, c.params-to_sql-3.ensures) at (c.in_ok-rows.ensures.ok clean) in
     let is_open = shown_open select_piece (given c.args.in_box.now c.args.name.now c.args.part) old new c.in_ok-rows.rows.items shown in
     let none = nothing_first c.first.result c.in_ok-rows.rows.items (c.first.ensures.value ∙ ap (λ l. slice_get l 0) c.deref.ensures.value) c.in_default.not-Some in
@@ -31,27 +31,27 @@ returns-in_default-clause-read g c v ours has whole inside clean =
 
 pub returns-clause-same : goal.returns-clause-same
 returns-clause-same g c v ours has inside clean =
-    let old = state g.S.Store c.args.tx.now.conn.now in
-    let new = state g.S.Store c.query.new.tx.conn.now in
+    let old = seen g.T.Ledger.view c.args.tx.now in
+    let new = seen g.T.Ledger.view c.query.new.self in
     let shown = c.in_ok-rows.ensures.ok clean in
     let is_open = shown_open select_piece _ old new c.in_ok-rows.rows.items shown in
     (shown_unchanged v select_piece select_piece_command (asks_of v ours select_piece select_piece_command select_piece_is) _ old new (has is_open) c.in_ok-rows.rows.items shown).0.now_is
 
 pub returns-in_default-clause-same : goal.returns-in_default-clause-same
 returns-in_default-clause-same g c v ours has inside clean =
-    let old = state g.S.Store c.args.tx.now.conn.now in
-    let new = state g.S.Store c.query.new.tx.conn.now in
+    let old = seen g.T.Ledger.view c.args.tx.now in
+    let new = seen g.T.Ledger.view c.query.new.self in
     let shown = c.in_ok-rows.ensures.ok clean in
     let is_open = shown_open select_piece _ old new c.in_ok-rows.rows.items shown in
     (shown_unchanged v select_piece select_piece_command (asks_of v ours select_piece select_piece_command select_piece_is) _ old new (has is_open) c.in_ok-rows.rows.items shown).0.now_is
 
 pub returns-clause-mode : goal.returns-clause-mode
 returns-clause-mode g c clean =
-    (shown_runs select_piece _ (state g.S.Store c.args.tx.now.conn.now) (state g.S.Store c.query.new.tx.conn.now) c.in_ok-rows.rows.items (c.in_ok-rows.ensures.ok clean)).2
+    (shown_runs select_piece _ (seen g.T.Ledger.view c.args.tx.now) (seen g.T.Ledger.view c.query.new.self) c.in_ok-rows.rows.items (c.in_ok-rows.ensures.ok clean)).2
 
 pub returns-in_default-clause-mode : goal.returns-in_default-clause-mode
 returns-in_default-clause-mode g c clean =
-    (shown_runs select_piece _ (state g.S.Store c.args.tx.now.conn.now) (state g.S.Store c.query.new.tx.conn.now) c.in_ok-rows.rows.items (c.in_ok-rows.ensures.ok clean)).2
+    (shown_runs select_piece _ (seen g.T.Ledger.view c.args.tx.now) (seen g.T.Ledger.view c.query.new.self) c.in_ok-rows.rows.items (c.in_ok-rows.ensures.ok clean)).2
 
 pub returns-clause-rest : goal.returns-clause-rest
 returns-clause-rest g c = grind arith

@@ -9,7 +9,7 @@ use Rattle.sqlkeeper.proofs.questions.ReceiptsQuestion.put.Goals as goal
 
 pub returns-clause-found : goal.returns-clause-found
 returns-clause-found g c s pends sound inside clean =
-    let before : HasCleanDisk (seen g.S.Store c.east.new.tx) = omega (arith, clean, c.receipts.ensures.rest.survives.clean) in
+    let before : HasCleanDisk (seen g.T.Ledger.view c.east.new.tx) = omega (arith, clean, c.receipts.ensures.rest.survives.clean) in
     let run = c.in_ok-east.ensures.rest.running before inside in
     c.receipts.ensures.found v2 (tables_of s) s.receipts second_version (c.in_ok-east.ensures.still v2 (tables_of s) second_version pends) refl (digests_known s sound) run.0 clean
 

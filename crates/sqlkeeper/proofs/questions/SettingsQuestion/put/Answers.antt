@@ -8,7 +8,7 @@ use Rattle.sqlkeeper.proofs.questions.SettingsQuestion.put.Goals as goal
 
 pub returns-clause-found : goal.returns-clause-found
 returns-clause-found g c s pends sound inside clean =
-    let before : HasCleanDisk (seen g.S.Store c.east.new.tx) = omega (arith, clean, c.allowance.ensures.rest.survives.clean) in
+    let before : HasCleanDisk (seen g.T.Ledger.view c.east.new.tx) = omega (arith, clean, c.allowance.ensures.rest.survives.clean) in
     let run = c.in_ok-east.ensures.rest.running before inside in
     let same_east : to_z w16 (of_z w16 c.in_ok-east.east) ≡ c.in_ok-east.east = search rules in
     record {

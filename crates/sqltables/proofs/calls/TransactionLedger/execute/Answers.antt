@@ -1,5 +1,5 @@
 use Rattle.std.proofs.Common.{arith}
-use Rattle.sqltables.proofs.calls.execute.Goals as goal
+use Rattle.sqltables.proofs.calls.TransactionLedger.execute.Goals as goal
 
 pub returns-clause-ran : goal.returns-clause-ran
 returns-clause-ran g c = grind arith

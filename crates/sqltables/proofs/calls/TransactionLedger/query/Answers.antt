@@ -1,11 +1,11 @@
 use Rattle.std.proofs.Common.{rules, arith}
 use Rattle.sqlite.specs.Held.{state}
 use Rattle.sqltables.proofs.Runs.{query_keeps, query_runs}
-use Rattle.sqltables.proofs.calls.query.Goals as goal
+use Rattle.sqltables.proofs.calls.TransactionLedger.query.Goals as goal
 
 pub returns-clause-rest : goal.returns-clause-rest
 returns-clause-rest g c =
-    let old = state g.S.Store c.args.tx.now.conn.now in
+    let old = state g.S.Store c.args.self.now.conn.now in
     let new = state g.S.Store c.query_all.new.self.conn.now in
     record {
       same_reference = search rules;
