@@ -6,22 +6,21 @@ ghost use Rattle.dropoffice.specs.Leaving.{IsCleanLeft};
 ghost use Rattle.dropoffice.specs.Performing.{IsServe, Performs, Succeeds};
 
 use crate::init::do_init;
-use crate::left::{Left, Worked};
+use crate::left::{FileLeft, Worked};
 use crate::migrating::do_migrate;
 use crate::works::{
     do_compare, do_desk, do_export, do_link, do_links, do_list, do_manifest, do_replay, do_serve,
 };
 use commands::{Done, Ending, Fault, Outside, Session};
 use sockets::Listener;
-use sqlite::{Error, ErrorCode, FileFrom, Start};
-use sqlite_disk::Disk;
+use sqlite::{Error, ErrorCode, Start};
 use std::io::{Read, Write};
 use tasks::Task;
 use wire::{Gathered, Outbox};
 
 /// How a task ended, and what it leaves.
 #[derive(Drop)]
-pub(crate) struct Ended<W, N, L, E, C, S, D: Disk> {
+pub(crate) struct Ended<W, N, L, E, C, F> {
     /// Whether it was done. Its fault is not told yet.
     pub result: Result<(), Fault>,
     /// The output, unless a server had it, or memory was refused for its buffer.
@@ -29,15 +28,15 @@ pub(crate) struct Ended<W, N, L, E, C, S, D: Disk> {
     /// How a server ended. Any other task hands `outside` back.
     pub ending: Ending<N, L, E, C>,
     /// What is left of the office file. It is closed when this is dropped.
-    pub left: Left<S, D>,
+    pub left: F,
 }
 
 // The end of a task that only has a result.
-fn plain<W, N, L, E, C, S: Drop, D: Disk>(
-    worked: Worked<Result<(), Fault>, S, D>,
+fn plain<W, N, L, E, C, F: Drop>(
+    worked: Worked<Result<(), Fault>, F>,
     out: W,
     outside: N,
-) -> Ended<W, N, L, E, C, S, D>
+) -> Ended<W, N, L, E, C, F>
     ensures done { IsOk result.result → IsOk worked.gain × IsOk worked.closed }
     ensures out { result.out ≡ Some out }
     ensures ending { result.ending ≡ Ending.Idle outside }
@@ -53,10 +52,10 @@ fn plain<W, N, L, E, C, S: Drop, D: Disk>(
 }
 
 // The end of a task that has an output.
-fn spoken<W: Drop, N, L, E, C, S: Drop, D: Disk>(
-    worked: Worked<Done<W>, S, D>,
+fn spoken<W: Drop, N, L, E, C, F: Drop>(
+    worked: Worked<Done<W>, F>,
     outside: N,
-) -> Ended<W, N, L, E, C, S, D>
+) -> Ended<W, N, L, E, C, F>
     ensures done { IsOk result.result → IsOk worked.gain.result × IsOk worked.closed }
     ensures out { result.out ≡ worked.gain.out }
     ensures ending { result.ending ≡ Ending.Idle outside }
@@ -73,9 +72,9 @@ fn spoken<W: Drop, N, L, E, C, S: Drop, D: Disk>(
 }
 
 // The end of a service.
-fn served<W, N: Drop, L: Drop, E: Drop, C: Drop, S: Drop, D: Disk>(
-    worked: Worked<Session<N, L, E, C>, S, D>,
-) -> Ended<W, N, L, E, C, S, D>
+fn served<W, N: Drop, L: Drop, E: Drop, C: Drop, F: Drop>(
+    worked: Worked<Session<N, L, E, C>, F>,
+) -> Ended<W, N, L, E, C, F>
     ensures done { IsOk result.result → IsOk worked.gain.result × IsOk worked.closed }
     ensures ending { result.ending ≡ worked.gain.ending }
     ensures left { result.left ≡ worked.left }
@@ -129,7 +128,7 @@ pub(crate) fn end_task<
     err: &mut E,
     start: S,
     outside: N,
-) -> Ended<W, N, N::Listener, <N::Listener as Listener>::End, N::Clock, S, FileFrom<S>>
+) -> Ended<W, N, N::Listener, <N::Listener as Listener>::End, N::Clock, FileLeft<S>>
     ensures office { HoldsOurs (image_at S.Start) → IsCleanLeft result.left
         → Performs N.listens N.begins N.Clock.now_gives N.Listener.told N.Listener.are_ends
         ⟦<Gathered<<N::Listener as Listener>::End> as Read>⟧.remaining

@@ -12,12 +12,12 @@ ghost use Rattle.dropoffice.specs.Leaving.{IsCleanLeft, IsClosed};
 ghost use Rattle.dropoffice.specs.Performing.{HasSettings, IsFirstRow, IsGivenSecret, IsSecretOf, MayMake};
 
 use crate::files::Purpose;
-use crate::left::{Left, Worked, ended_with};
+use crate::left::{FileLeft, Left, Worked, ended_with};
 use crate::opening::{connect, end_work, unfit};
 use boxes::OfficeRow;
 use commands::{Argument, Fault, check_secret, read_secret_file};
 use sigv4::{Allowance, is_key_id};
-use sqlite::{Alter, Connection, FileFrom, FileStore, Start};
+use sqlite::{Alter, Connection, FileStore, Start};
 use sqlite_disk::Disk;
 use sqlkeeper::SqlKeeper;
 use std::alloc::Global;
@@ -35,7 +35,7 @@ pub(crate) fn do_init<S: Start + Drop>(
     rt: &HostRuntime,
     words: &Init<'_>,
     start: S,
-) -> Worked<Result<(), Fault>, S, FileFrom<S>>
+) -> Worked<Result<(), Fault>, FileLeft<S>>
     ensures made { IsCleanLeft result.left
         → MayMake words.now (image_at S.Start) start result.left (IsOk result.gain) }
     ensures opened { IsOk result.gain → IsOk result.closed → IsClosed result.left }
@@ -53,7 +53,7 @@ fn init_with<S: Start + Drop>(
     office: OfficeRow,
     secret: &[u8],
     start: S,
-) -> Worked<Result<(), Fault>, S, FileFrom<S>>
+) -> Worked<Result<(), Fault>, FileLeft<S>>
     ensures made { IsFirstRow words.now office secret.now → IsCleanLeft result.left
         → MayMake words.now (image_at S.Start) start result.left (IsOk result.gain) }
     ensures opened { IsOk result.gain → IsOk result.closed → IsClosed result.left }
@@ -181,7 +181,7 @@ fn make_office<S: Start + Drop>(
     secret: &[u8],
     office: OfficeRow,
     start: S,
-) -> Worked<Result<(), Fault>, S, FileFrom<S>>
+) -> Worked<Result<(), Fault>, FileLeft<S>>
     ensures made { IsFirstRow words.now office secret.now → IsCleanLeft result.left
         → MayMake words.now (image_at S.Start) start result.left (IsOk result.gain) }
     ensures opened { IsOk result.gain → IsOk result.closed → IsClosed result.left }
@@ -199,7 +199,7 @@ fn make_in<S: Drop, D: Disk + Drop>(
     words: &Init<'_>,
     secret: &[u8],
     office: OfficeRow,
-) -> Worked<Result<(), Fault>, S, D>
+) -> Worked<Result<(), Fault>, Left<S, D>>
     ensures made { (image : Image) (start : S) → OpensOn image (file_state conn) → IsFirstRow words.now office secret.now → IsCleanLeft result.left
         → MayMake words.now image start result.left (IsOk result.gain) }
     ensures opened { IsOk result.gain → IsOk result.closed → IsClosed result.left }

@@ -1,7 +1,7 @@
 //! What a command leaves of an office file.
 ghost use Rattle.std.specs.Prelude.{◌≡◌};
 
-use sqlite::{Connection, Error, FileStore, Files, Leftover};
+use sqlite::{Connection, Error, FileFrom, FileStore, Files, Leftover};
 use sqlite_disk::Disk;
 
 /// What is left of the office file that a command names. Dropping it closes the file. `S` stands for what the file and its log
@@ -22,19 +22,22 @@ pub enum Left<S, D: Disk> {
     Unclosed(FileStore<D>),
 }
 
+/// What is left of the office file that `S` stands for.
+pub(crate) type FileLeft<S> = Left<S, FileFrom<S>>;
+
 /// What work on an office file gives, and what is left of the file.
 #[derive(Drop)]
-pub(crate) struct Worked<G: Drop, S: Drop, D: Disk> {
+pub(crate) struct Worked<G: Drop, F: Drop> {
     /// What the work gives.
     pub gain: G,
     /// Whether the file was closed, if it was to be.
     pub closed: Result<(), Error>,
     /// What is left.
-    pub left: Left<S, D>,
+    pub left: F,
 }
 
 /// No file was to be closed.
-pub(crate) fn ended_with<G: Drop, S: Drop, D: Disk>(gain: G, left: Left<S, D>) -> Worked<G, S, D>
+pub(crate) fn ended_with<G: Drop, F: Drop>(gain: G, left: F) -> Worked<G, F>
     ensures gain { result.gain ≡ gain }
     ensures left { result.left ≡ left }
 {

@@ -11,11 +11,11 @@ ghost use Rattle.dropoffice.specs.Performing.{MayMigrate};
 
 use crate::ending::unclosed;
 use crate::files::{Purpose, require_file};
-use crate::left::{Left, Worked, ended_with};
+use crate::left::{FileLeft, Left, Worked, ended_with};
 use crate::opening::{connect, end_work, unfit};
 use crate::works::failed;
 use commands::{Done, Fault, tell};
-use sqlite::{Alter, Connection, FileFrom, FileStore, Start};
+use sqlite::{Alter, Connection, FileStore, Start};
 use sqlite_disk::Disk;
 use sqlkeeper::SqlKeeper;
 use std::alloc::Global;
@@ -28,7 +28,7 @@ pub(crate) fn do_migrate<S: Start + Drop, W: Write + Drop>(
     words: &OfficeFile<'_>,
     out: W,
     start: S,
-) -> Worked<Done<W>, S, FileFrom<S>>
+) -> Worked<Done<W>, FileLeft<S>>
     ensures ran { HoldsOurs (image_at S.Start) → IsCleanLeft result.left
         → MayMigrate (image_at S.Start) start result.left W.contents (IsOk result.gain.result) out result.gain.out }
     ensures opened { IsOk result.gain.result → IsClosed result.left }
@@ -47,7 +47,7 @@ fn migrate_in<S: Drop, D: Disk + Drop, W: Write + Drop>(
     alloc: Global,
     conn: Connection<FileStore<D>>,
     out: W,
-) -> Worked<Done<W>, S, D>
+) -> Worked<Done<W>, Left<S, D>>
     ensures ran { (image : Image) (start : S) → OpensOn image (file_state conn) → HoldsOurs image → IsCleanLeft result.left
         → MayMigrate image start result.left W.contents (IsOk result.gain.result) out result.gain.out }
     ensures opened { IsOk result.gain.result → IsClosed result.left }

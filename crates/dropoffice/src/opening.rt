@@ -14,7 +14,7 @@ ghost use Rattle.dropoffice.specs.Holding.{HoldsOurs};
 ghost use Rattle.dropoffice.specs.Working.{OpensOn, WorksOn};
 
 use crate::files::{Purpose, require_file};
-use crate::left::{Left, Worked, ended_with};
+use crate::left::{FileLeft, Left, Worked, ended_with};
 use commands::{Fault, OfficeWork};
 use sqlite::{
     Alter, Connection, Error, ErrorCode, FileFrom, FileStore, Files, Leftover, Options, Start,
@@ -194,7 +194,7 @@ pub(crate) fn work_over<S: Start + Drop, W: OfficeWork + Drop>(
     purpose: Purpose,
     work: W,
     start: S,
-) -> Worked<W::Gain, S, FileFrom<S>>
+) -> Worked<W::Gain, FileLeft<S>>
     ensures looked { W.idle work result.gain ⊎ (purpose ≡ Purpose.Look → IsLooked result.left) }
     ensures closed { W.idle work result.gain
         ⊎ (IsOk result.closed → purpose ≢ Purpose.Look → IsClosed result.left) }
@@ -217,7 +217,7 @@ fn work_in<S: Drop, D: Disk + Drop, W: OfficeWork + Drop>(
     conn: Connection<FileStore<D>>,
     purpose: Purpose,
     work: W,
-) -> Worked<W::Gain, S, D>
+) -> Worked<W::Gain, Left<S, D>>
     ensures looked { W.idle work result.gain ⊎ (purpose ≡ Purpose.Look → IsLooked result.left) }
     ensures closed { W.idle work result.gain
         ⊎ (IsOk result.closed → purpose ≢ Purpose.Look → IsClosed result.left) }

@@ -11,7 +11,7 @@ ghost use Rattle.dropoffice.specs.Leaving.{IsCleanLeft, IsClosed, IsLooked};
 ghost use Rattle.dropoffice.specs.Performing.{Answers, Commands, IsKeyFile, IsMemoryFile, Lists, MayRun, OpensNone, Serves, Unless};
 
 use crate::files::{Purpose, require_file};
-use crate::left::{Left, Worked, ended_with};
+use crate::left::{FileLeft, Left, Worked, ended_with};
 use crate::opening::work_over;
 use commands::{
     Argument, CompareWork, DeskWork, Done, Ending, ExportWork, Fault, KeyWork, LinkWork, LinksWork,
@@ -21,7 +21,7 @@ use commands::{
 };
 use links::read_moment;
 use sockets::Listener;
-use sqlite::{FileFrom, Start};
+use sqlite::Start;
 use std::io::{Read, Write};
 use tasks::{Desk, Export, Link, Links, Listing, OfficeFile, Replay, Serve};
 use wire::{Gathered, Outbox};
@@ -44,7 +44,7 @@ pub(crate) fn do_desk<S: Start + Drop, R: Read + Drop, W: Write + Drop>(
     input: R,
     out: W,
     start: S,
-) -> Worked<Done<W>, S, FileFrom<S>>
+) -> Worked<Done<W>, FileLeft<S>>
     ensures ran { HoldsOurs (image_at S.Start) → IsCleanLeft result.left
         → MayRun (image_at S.Start) start result.left (HandsBack (IsOk result.gain.result) out result.gain.out)
         (Commands (R.remaining input) words.now W.contents (IsOk result.gain.result) out result.gain.out) }
@@ -67,7 +67,7 @@ pub(crate) fn do_manifest<S: Start + Drop, W: Write + Drop>(
     words: &OfficeFile<'_>,
     out: W,
     start: S,
-) -> Worked<Done<W>, S, FileFrom<S>>
+) -> Worked<Done<W>, FileLeft<S>>
     ensures ran { HoldsOurs (image_at S.Start) → IsCleanLeft result.left
         → MayRun (image_at S.Start) start result.left (HandsBack (IsOk result.gain.result) out result.gain.out)
         (Writes W.contents IsManifest (IsOk result.gain.result) out result.gain.out) }
@@ -83,7 +83,7 @@ pub(crate) fn do_compare<S: Start + Drop, R: Read + Drop, W: Write + Drop>(
     input: R,
     out: W,
     start: S,
-) -> Worked<Done<W>, S, FileFrom<S>>
+) -> Worked<Done<W>, FileLeft<S>>
     ensures ran { HoldsOurs (image_at S.Start) → IsCleanLeft result.left
         → MayRun (image_at S.Start) start result.left (HandsBack (IsOk result.gain.result) out result.gain.out)
         (Compares W.contents (R.remaining input) (IsOk result.gain.result) out result.gain.out) }
@@ -99,7 +99,7 @@ pub(crate) fn do_list<S: Start + Drop, W: Write + Drop>(
     words: &Listing<'_>,
     out: W,
     start: S,
-) -> Worked<Done<W>, S, FileFrom<S>>
+) -> Worked<Done<W>, FileLeft<S>>
     ensures ran { HoldsOurs (image_at S.Start) → IsCleanLeft result.left
         → MayRun (image_at S.Start) start result.left (HandsBack (IsOk result.gain.result) out result.gain.out)
         (Lists words.now W.contents (IsOk result.gain.result) out result.gain.out) }
@@ -125,7 +125,7 @@ pub(crate) fn do_export<S: Start + Drop>(
     rt: &HostRuntime,
     words: &Export<'_>,
     start: S,
-) -> Worked<Result<(), Fault>, S, FileFrom<S>>
+) -> Worked<Result<(), Fault>, FileLeft<S>>
     ensures ran { HoldsOurs (image_at S.Start) → IsCleanLeft result.left
         → MayRun (image_at S.Start) start result.left (IsOk result.gain → ⊥) Looks }
     ensures opened { IsOk result.gain → IsLooked result.left }
@@ -140,7 +140,7 @@ pub(crate) fn do_link<S: Start + Drop, W: Write + Drop>(
     words: &Link<'_>,
     out: W,
     start: S,
-) -> Worked<Done<W>, S, FileFrom<S>>
+) -> Worked<Done<W>, FileLeft<S>>
     ensures ran { HoldsOurs (image_at S.Start) → IsCleanLeft result.left
         → Unless (IsKeyFile words.now.file.now) (OpensNone start result.left)
         (MayRun (image_at S.Start) start result.left (IsOk result.gain.result → ⊥) Looks) }
@@ -162,7 +162,7 @@ pub(crate) fn do_links<S: Start + Drop, R: Read + Drop, W: Write + Drop>(
     input: R,
     out: W,
     start: S,
-) -> Worked<Done<W>, S, FileFrom<S>>
+) -> Worked<Done<W>, FileLeft<S>>
     ensures ran { HoldsOurs (image_at S.Start) → IsCleanLeft result.left
         → Unless (IsKeyFile words.now.file.now) (OpensNone start result.left)
         (MayRun (image_at S.Start) start result.left (IsOk result.gain.result → ⊥) Looks) }
@@ -184,7 +184,7 @@ fn sign_by<S: Start + Drop, W: KeyWork + Drop>(
     id: &str,
     work: W,
     start: S,
-) -> Worked<Done<W::Out>, S, FileFrom<S>>
+) -> Worked<Done<W::Out>, FileLeft<S>>
     ensures ran { HoldsOurs (image_at S.Start) → IsCleanLeft result.left
         → Unless (IsKeyFile file.now) (OpensNone start result.left)
         (MayRun (image_at S.Start) start result.left (IsOk result.gain.result → ⊥) Looks) }
@@ -203,7 +203,7 @@ pub(crate) fn do_replay<S: Start + Drop, W: Write + Drop>(
     words: &Replay<'_>,
     out: W,
     start: S,
-) -> Worked<Done<W>, S, FileFrom<S>>
+) -> Worked<Done<W>, FileLeft<S>>
     ensures ran { HoldsOurs (image_at S.Start) → IsCleanLeft result.left
         → Unless (IsMemoryFile words.now.file.now) (OpensNone start result.left)
         (MayRun (image_at S.Start) start result.left (HandsBack (IsOk result.gain.result) out result.gain.out)
@@ -239,7 +239,7 @@ pub(crate) fn do_serve<S: Start + Drop, N: Outside + Drop, W: Write + Drop, E: W
     err: E,
     start: S,
     outside: N,
-) -> Worked<Session<N, N::Listener, <N::Listener as Listener>::End, N::Clock>, S, FileFrom<S>>
+) -> Worked<Session<N, N::Listener, <N::Listener as Listener>::End, N::Clock>, FileLeft<S>>
     ensures ran { HoldsOurs (image_at S.Start) → IsCleanLeft result.left
         → MayRun (image_at S.Start) start result.left
         (NeverListens (IsOk result.gain.result) outside result.gain.ending)
@@ -267,7 +267,7 @@ fn serve_by<S: Start + Drop, N: Outside + Drop, W: Write + Drop, E: Write + Drop
     err: E,
     start: S,
     outside: N,
-) -> Worked<Session<N, N::Listener, <N::Listener as Listener>::End, N::Clock>, S, FileFrom<S>>
+) -> Worked<Session<N, N::Listener, <N::Listener as Listener>::End, N::Clock>, FileLeft<S>>
     ensures ran { IsServiceOf words.now service.entry.address service.entry.limits → HoldsOurs (image_at S.Start)
         → IsCleanLeft result.left
         → MayRun (image_at S.Start) start result.left
