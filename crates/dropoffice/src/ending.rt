@@ -32,7 +32,7 @@ pub(crate) struct Ended<W, N, L, E, C, F> {
 }
 
 // The end of a task that only has a result.
-fn plain<W, N, L, E, C, F: Drop>(
+fn plain<W, N, L, E, C, F>(
     worked: Worked<Result<(), Fault>, F>,
     out: W,
     outside: N,
@@ -52,10 +52,7 @@ fn plain<W, N, L, E, C, F: Drop>(
 }
 
 // The end of a task that has an output.
-fn spoken<W: Drop, N, L, E, C, F: Drop>(
-    worked: Worked<Done<W>, F>,
-    outside: N,
-) -> Ended<W, N, L, E, C, F>
+fn spoken<W: Drop, N, L, E, C, F>(worked: Worked<Done<W>, F>, outside: N) -> Ended<W, N, L, E, C, F>
     ensures done { IsOk result.result → IsOk worked.gain.result × IsOk worked.closed }
     ensures out { result.out ≡ worked.gain.out }
     ensures ending { result.ending ≡ Ending.Idle outside }
@@ -72,7 +69,7 @@ fn spoken<W: Drop, N, L, E, C, F: Drop>(
 }
 
 // The end of a service.
-fn served<W, N: Drop, L: Drop, E: Drop, C: Drop, F: Drop>(
+fn served<W, N: Drop, L: Drop, E: Drop, C: Drop, F>(
     worked: Worked<Session<N, L, E, C>, F>,
 ) -> Ended<W, N, L, E, C, F>
     ensures done { IsOk result.result → IsOk worked.gain.result × IsOk worked.closed }

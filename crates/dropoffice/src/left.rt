@@ -27,7 +27,7 @@ pub(crate) type FileLeft<S> = Left<S, FileFrom<S>>;
 
 /// What work on an office file gives, and what is left of the file.
 #[derive(Drop)]
-pub(crate) struct Worked<G: Drop, F: Drop> {
+pub(crate) struct Worked<G, F> {
     /// What the work gives.
     pub gain: G,
     /// Whether the file was closed, if it was to be.
@@ -37,7 +37,7 @@ pub(crate) struct Worked<G: Drop, F: Drop> {
 }
 
 /// No file was to be closed.
-pub(crate) fn ended_with<G: Drop, F: Drop>(gain: G, left: F) -> Worked<G, F>
+pub(crate) fn ended_with<G, F>(gain: G, left: F) -> Worked<G, F>
     ensures gain { result.gain ≡ gain }
     ensures left { result.left ≡ left }
 {
