@@ -1,7 +1,7 @@
 """Proves crates with `rt ci`: each as soon as those that it stands on are proved, and as many in parallel as processors and
 memory allow. `rt ci` keeps what it proves on this machine, and a later run takes it over, also in another checkout.
 
-The code of `rt` does the work. Three things are different here:
+The code of `rt` does the work. Four things are different here:
 
 - `rt` allows each check more memory than it was ever seen to take, so few run in parallel. Here it is half as much.
 - The crates with the most work behind them come first, by the seconds in ci/seconds.txt. `rt` counts lines.
