@@ -7,7 +7,7 @@ mod errands;
 #[cfg(test)]
 mod in_memory;
 #[cfg(test)]
-mod lists;
+mod listings;
 #[cfg(test)]
 mod runs;
 #[cfg(test)]
