@@ -6,8 +6,8 @@ The code of `rt` does the work. Four things are different here:
 - `rt` allows each check more memory than it was ever seen to take, so few run in parallel. Here it is half as much.
 - The crates with the most work behind them come first, by the seconds in ci/seconds.txt. `rt` counts lines.
 - Several processors take a quarter more time together than one takes alone. So a check has one.
-- With `--program`, the run that proves the program compiles it with Rattle's own compiler, which takes a third of the time of LLVM.
-  It stays in `crates/NAME/out`. Without, both compile it at the same time, and `rt` compares what their programs write.
+- With `--program`, the program is compiled by the run that proves it, and stays in `crates/NAME/out`. Without, two compilers build
+  it at the same time, and `rt` compares what both programs write.
 
 Before it begins, it says how long it will take. Then it shows a line that moves: how many crates are proved, which are at work,
 for how long, and how many minutes are left. The output of `rt` goes to a file, which that line names.
@@ -226,7 +226,7 @@ def arrange(progress, wants_program):
         if tests or not crate.is_program:
             return prove(crate, flags, tests)
         words, made = crate.words(flags, keeps=False), f"out/{crate.name}"
-        how = ["--toolchain", f"{RT.KIT}/toolchain", "--backend", "rattle", "-o", f"{made}.o"]
+        how = ["--toolchain", f"{RT.KIT}/toolchain", "--backend", "llvm", "-o", f"{made}.o"]
         return crate.prove(["build", *words, *how]) or crate.link(f"{made}.o", made)
 
     def compile_together(crate, backend, words, to):
