@@ -58,8 +58,8 @@ KEPT = pathlib.Path(os.environ.get("XDG_CACHE_HOME") or pathlib.Path.home() / ".
 UNGUARDED = pathlib.Path(__file__).with_name("unguarded.txt")
 # The crates whose functions are tests.
 OF_TESTS = ["examples", "trials", "streams", "stores", "peers", "caches"]
-# At least this many edits share a check, if there are that many: loading what is kept costs as much as a few edits.
-FEWEST = 24
+# At least this many edits share a check, if there are that many: a check of one edit costs as much as one of ten.
+FEWEST = 64
 # A library that `rt ci` has built is complete once none of its files was written for so many seconds.
 SETTLES = 10
 # A check takes less than this share of the memory that `rt` estimates for it: up to 2 GB were seen, 3.6 in `sqlkeeper`.
@@ -175,14 +175,18 @@ def function_at(source, place):
 
 
 def lies_in(folder, text, function):
-    """Whether each changed text lies in the body of the function of that name."""
-    file = ""
+    """Whether each change lies in the body of the function of that name. A new text may begin with the old one, such as a head."""
+    file, old = "", ""
     for line in text.splitlines():
-        if line.startswith("file: "):
-            file = line.removeprefix("file: ").strip()
-        if line.startswith("old: "):
+        word, _, told = line.partition(": ")
+        if word == "file":
+            file = told.strip()
+        if word == "old":
+            old = told
+        if word == "new":
             source = (folder / file).read_text(encoding="utf-8")
-            if function_at(source, source.find(line.removeprefix("old: "))) != function.split("::")[-1]:
+            place, same = source.find(old), len(os.path.commonprefix([old, told]))
+            if function.split("::")[-1] not in (function_at(source, place), function_at(source, place + same)):
                 return False
     return True
 

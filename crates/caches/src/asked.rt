@@ -2,7 +2,7 @@
 ghost use Rattle.std.specs.Prelude.{◌≤◌, length};
 
 use boxes::{Change, Command, KeepFault, Keeper, Mode, NewFile, Role};
-use layers::CachedKeeper;
+use shelf::CachedKeeper;
 use shelf::Shelf;
 use std::alloc::Global;
 use std::test::Fail;

@@ -8,11 +8,11 @@ use Rattle.wire.specs.declared.outbox.Outbox.{Outbox}
 use Rattle.std.specs.Prelude.{IsOkAnd}
 use Rattle.std.specs.declared.net.socket_addr.SocketAddrV4.{SocketAddrV4}
 use Rattle.std.specs.declared.io.Error.{Error}
-use Rattle.service.specs.Serving.{ServesMany, at_least_one}
+use Rattle.commands.specs.Rounds.{ServesMany, at_least_one}
 use Rattle.sockets.specs.Listening.{Event}
 use Rattle.sockets.specs.declared.preparing.Limits.{Limits}
-use Rattle.service.specs.declared.serving.Outcome.{Outcome}
-use Rattle.service.specs.declared.serving.Served.{Served}
+use Rattle.commands.specs.declared.rounds.Outcome.{Outcome}
+use Rattle.commands.specs.declared.rounds.Served.{Served}
 use Rattle.commands.specs.Asking.{Asked, turns}
 use Rattle.commands.specs.Serving.{IsFine, MayServe, ServesFrom}
 use Rattle.commands.specs.Working.{Passes}

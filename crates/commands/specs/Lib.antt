@@ -2,6 +2,7 @@ pub mod Asking
 pub mod Listing
 pub mod Obeying
 pub mod Replaying
+pub mod Rounds
 pub mod Saying
 pub mod Serving
 pub mod Wording

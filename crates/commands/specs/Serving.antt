@@ -14,11 +14,11 @@ use Rattle.wire.specs.declared.seat.Seat.{Seat}
 use Rattle.wire.specs.declared.gathered.Gathered.{Gathered}
 use Rattle.wire.specs.declared.outbox.Outbox.{Outbox}
 use Rattle.sockets.specs.Accepting.{HasGiven}
-use Rattle.service.specs.Serving.{Accepts, at_least_one}
+use Rattle.commands.specs.Rounds.{Accepts, at_least_one}
 use Rattle.sockets.specs.Listening.{Event}
 use Rattle.sockets.specs.declared.preparing.Limits.{Limits}
-use Rattle.service.specs.declared.serving.Outcome.{Outcome}
-use Rattle.service.specs.declared.serving.Served.{Served}
+use Rattle.commands.specs.declared.rounds.Outcome.{Outcome}
+use Rattle.commands.specs.declared.rounds.Served.{Served}
 use Rattle.commands.specs.Asking.{Asked, turns}
 use Rattle.commands.specs.Listing.{Looks}
 use Rattle.commands.specs.declared.serving.Ending.{Ending}

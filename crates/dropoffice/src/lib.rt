@@ -10,7 +10,7 @@ mod opening;
 mod program;
 mod works;
 
-pub use commands::{Ending, Fault, Machine, Outside};
+pub use commands::{Ending, Fault, Machine, Outcome, Outside, Served, serve};
 pub use left::Left;
 pub use office::{
     Answer, Clock, Counted, DeskFault, FixedClock, ListedClock, MachineClock, Message, Office,
@@ -18,7 +18,6 @@ pub use office::{
     replay_over,
 };
 pub use program::{Performed, perform};
-pub use service::{Outcome, Served, serve};
 pub use sockets::Limits;
 pub use sqlite::{Start, Unknown};
 pub use tasks::{

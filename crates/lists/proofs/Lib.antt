@@ -20,3 +20,6 @@ pub mod SentFiles
 pub mod Walks
 pub mod Paths
 pub mod OneName
+pub mod Added
+pub mod Begun
+pub mod PassedOn

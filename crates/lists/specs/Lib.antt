@@ -12,3 +12,4 @@ pub mod Names
 pub mod Folders
 pub mod Exports
 pub mod Faults
+pub mod Published

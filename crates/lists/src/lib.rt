@@ -1,5 +1,6 @@
-//! What a clerk gets in CSV, lists of keys, boxes and files, the manifest of receipts, its comparison and lists of links; and the
-//! export of an office's files to a folder.
+//! What a clerk gets in CSV: lists of keys, boxes and files, the manifest of receipts, its comparison, and lists of links. The
+//! export of an office's files to a folder. A keeper around another keeper, which publishes the manifest of its office, and adds
+//! each new receipt to it.
 #![tactic(auto)]
 
 mod answerer;
@@ -19,7 +20,10 @@ mod list_fault;
 mod manifests;
 mod names;
 mod places;
+mod publisher;
+mod publishes;
 mod records;
+mod sheet;
 mod texts;
 mod words;
 
@@ -37,3 +41,5 @@ pub use list_fault::ListFault;
 pub use manifests::{manifest, moment_text, receipts_text};
 pub use names::{export_name, folder_name};
 pub use places::{FilePlace, next_file};
+pub use publisher::Publisher;
+pub use sheet::Sheet;

@@ -11,10 +11,10 @@ use Rattle.wire.specs.declared.gathered.Gathered.{Gathered}
 use Rattle.wire.specs.declared.outbox.Outbox.{Outbox}
 use Rattle.peers.specs.Counts.{Counts, is_closing, is_opening}
 use Rattle.sockets.specs.Accepting.{Admits}
-use Rattle.service.specs.Serving.{Accepts}
+use Rattle.commands.specs.Rounds.{Accepts}
 use Rattle.sockets.specs.Accepting as accepting
 use Rattle.sockets.specs.Listening.{Event, accepted, closed, missed, opened, unready}
-use Rattle.service.specs.declared.serving.Outcome.{Outcome}
+use Rattle.commands.specs.declared.rounds.Outcome.{Outcome}
 
 -- a count of both is the sum of the counts
 pub count_both : {X : Type 0} (p : X → Bool) (xs ys : List X) → count_by p (xs ++ ys) ≡ count_by p xs + count_by p ys

@@ -6,7 +6,7 @@ ghost use Rattle.sockets.specs.Listening.{Event, closed};
 use boxes::Keeper;
 use mio::Poll;
 use office::{Clock, Office};
-use service::{Served, serve};
+use commands::{Served, serve};
 use sockets::{Limits, Listener, TcpEnd, Unready};
 use std::alloc::Global;
 use std::net::TcpListener;

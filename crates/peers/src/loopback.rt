@@ -2,7 +2,7 @@
 use crate::counting::{Counting, serve_counted};
 use mio::Poll;
 use office::FixedClock;
-use service::{Outcome, serve};
+use commands::{Outcome, serve};
 use sigv4::Moment;
 use sockets::{End, Limits, Listener, TcpEnd};
 use std::io::{ErrorKind, Read, Write};

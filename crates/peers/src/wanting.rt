@@ -1,7 +1,7 @@
 //! A listener while the system has no descriptor left.
 use mio::Poll;
 use office::FixedClock;
-use service::serve;
+use commands::serve;
 use sigv4::Moment;
 use sockets::{Limits, Listener, TcpEnd, Unready};
 use std::alloc::Global;

@@ -4,3 +4,7 @@ pub mod ClerkCounts
 pub mod LimitLemmas
 pub mod ShelfLemmas
 pub mod StayLemmas
+pub mod Entries
+pub mod Followed
+pub mod Answered
+pub mod Passed

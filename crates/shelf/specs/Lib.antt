@@ -1,3 +1,4 @@
 pub mod Maps
 pub mod Shelves
 pub mod OneState
+pub mod Recalled

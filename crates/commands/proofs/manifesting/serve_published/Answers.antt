@@ -1,5 +1,5 @@
 use Rattle.std.proofs.Common.{◌≡◌, ap, inr, refl, subst, sym, ◌∙◌, ⊎_elim, arith}
-use Rattle.layers.specs.declared.publisher.Publisher.{Publisher}
+use Rattle.lists.specs.declared.publisher.Publisher.{Publisher}
 use Rattle.commands.proofs.Crowds.{less}
 use Rattle.commands.proofs.Landing.{looks, more, unasked, within}
 use Rattle.commands.proofs.manifesting.serve_published.Goals as goal

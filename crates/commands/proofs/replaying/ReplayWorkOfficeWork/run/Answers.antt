@@ -1,7 +1,7 @@
 use Rattle.std.proofs.Common.{subst, sym}
 use Rattle.boxes.specs.Sound.{IsSound}
-use Rattle.layers.specs.Recalled.{Recalls}
-use Rattle.layers.specs.declared.cached_keeper.CachedKeeper.{CachedKeeper}
+use Rattle.shelf.specs.Recalled.{Recalls}
+use Rattle.shelf.specs.declared.cached_keeper.CachedKeeper.{CachedKeeper}
 use Rattle.commands.proofs.Landing.{within}
 use Rattle.commands.proofs.Turns.{replayed}
 use Rattle.commands.proofs.replaying.ReplayWorkOfficeWork.run.Goals as goal

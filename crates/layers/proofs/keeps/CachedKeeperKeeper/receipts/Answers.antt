@@ -1,9 +1,0 @@
-use Rattle.std.proofs.Common.{arith}
-use Rattle.layers.proofs.Passed.{passed_on}
-use Rattle.layers.proofs.keeps.CachedKeeperKeeper.receipts.Goals as goal
-
-pub returns-clause-rest : goal.returns-clause-rest
-returns-clause-rest g c = passed_on g.K.Keeper c.args.self.now _ c.receipts.result c.or_forget.result c.receipts.ensures.rest c.or_forget.ensures.same c.or_forget.ensures.stays
-
-pub returns-clause-value : goal.returns-clause-value
-returns-clause-value g c = grind arith

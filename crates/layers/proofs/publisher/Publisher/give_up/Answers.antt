@@ -1,5 +1,0 @@
-use Rattle.std.proofs.Common.{arith}
-use Rattle.layers.proofs.publisher.Publisher.give_up.Goals as goal
-
-pub returns-clause-means : goal.returns-clause-means
-returns-clause-means g c = grind arith

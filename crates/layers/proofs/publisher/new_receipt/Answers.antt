@@ -1,5 +1,0 @@
-use Rattle.std.proofs.Common.{arith}
-use Rattle.layers.proofs.publisher.new_receipt.Goals as goal
-
-pub returns : goal.returns
-returns c = grind arith

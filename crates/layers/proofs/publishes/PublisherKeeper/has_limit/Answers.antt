@@ -1,9 +1,0 @@
-use Rattle.std.proofs.Common.{arith}
-use Rattle.layers.proofs.PassedOn.{passed_on}
-use Rattle.layers.proofs.publishes.PublisherKeeper.has_limit.Goals as goal
-
-pub returns-clause-rest : goal.returns-clause-rest
-returns-clause-rest g c = passed_on g.K.Keeper g.S.Sheet.text c.args.self.now c.has_limit.new.self c.has_limit.result c.has_limit.ensures.rest
-
-pub returns-clause-value : goal.returns-clause-value
-returns-clause-value g c = grind arith

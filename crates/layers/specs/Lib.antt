@@ -1,2 +1,0 @@
-pub mod Recalled
-pub mod Published

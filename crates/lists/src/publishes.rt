@@ -1,0 +1,107 @@
+//! `Publisher` implements `Keeper`.
+ghost use Rattle.std.specs.Prelude.{IsTrue};
+ghost use Rattle.boxes.specs.Sound.{IsSound};
+ghost use Rattle.lists.specs.Published.{IsBegun, IsPublished};
+
+use crate::publisher::Publisher;
+use crate::sheet::Sheet;
+use boxes::{BoxRow, Change, FileRow, KeepFault, Keeper, KeyRow, OfficeRow, ReceiptRow, Totals};
+use std::io::Write;
+
+impl<K: Keeper, S: Sheet + Drop, E: Write + Drop> Keeper for Publisher<K, S, E> {
+    ghost means = { λ p s. K.means p.keeper s
+        × (K.is_honest p.keeper → IsSound s → IsBegun s (S.text p.sheet)
+        × (IsTrue p.is_whole → IsPublished s (S.text p.sheet))) };
+
+    ghost stages = { λ p bytes. K.stages p.keeper bytes };
+
+    ghost is_honest = { λ p. K.is_honest p.keeper };
+
+    ghost is_open = { λ p. K.is_open p.keeper };
+
+    ghost faults = { λ p. K.faults p.keeper };
+
+    ghost leaves = { λ p s. K.leaves p.keeper s };
+
+    ghost leaves_whole = { λ p. K.leaves_whole p.keeper };
+
+    ghost has_store = { K.has_store };
+
+    fn settings(&mut self) -> Result<OfficeRow, KeepFault> {
+        self.keeper.settings()
+    }
+
+    fn key(&mut self, id: &[u8]) -> Result<Option<KeyRow>, KeepFault> {
+        self.keeper.key(id)
+    }
+
+    fn may_use(&mut self, id: &[u8], in_box: &[u8]) -> Result<bool, KeepFault> {
+        self.keeper.may_use(id, in_box)
+    }
+
+    fn has_limit(&mut self, id: &[u8], in_box: &[u8]) -> Result<bool, KeepFault> {
+        self.keeper.has_limit(id, in_box)
+    }
+
+    fn box_row(&mut self, name: &[u8]) -> Result<Option<BoxRow>, KeepFault> {
+        self.keeper.box_row(name)
+    }
+
+    fn file(&mut self, in_box: &[u8], name: &[u8]) -> Result<Option<FileRow>, KeepFault> {
+        self.keeper.file(in_box, name)
+    }
+
+    fn file_receipt(
+        &mut self,
+        in_box: &[u8],
+        name: &[u8],
+    ) -> Result<Option<ReceiptRow>, KeepFault> {
+        self.keeper.file_receipt(in_box, name)
+    }
+
+    fn sizes(&mut self, in_box: &[u8]) -> Result<Totals, KeepFault> {
+        self.keeper.sizes(in_box)
+    }
+
+    fn clerks(&mut self) -> Result<u64, KeepFault> {
+        self.keeper.clerks()
+    }
+
+    fn next_number(&mut self) -> Result<u64, KeepFault> {
+        self.keeper.next_number()
+    }
+
+    fn receipts(&mut self, from: u64, most: usize) -> Result<Vec<ReceiptRow>, KeepFault> {
+        self.keeper.receipts(from, most)
+    }
+
+    fn stage_begin(&mut self) -> Result<(), KeepFault> {
+        self.keeper.stage_begin()
+    }
+
+    fn stage(&mut self, bytes: &[u8]) -> Result<(), KeepFault> {
+        self.keeper.stage(bytes)
+    }
+
+    fn staged_equals(&mut self, in_box: &[u8], name: &[u8]) -> Result<bool, KeepFault> {
+        self.keeper.staged_equals(in_box, name)
+    }
+
+    fn stage_drop(&mut self) -> Result<(), KeepFault> {
+        self.keeper.stage_drop()
+    }
+
+    fn apply(&mut self, change: &Change<'_>) -> Result<(), KeepFault> {
+        let done = self.keeper.apply(change);
+        if done.is_ok() {
+            self.note(change);
+        }
+        done
+    }
+
+    ghost one = { λ p s t honest opened a b. K.one p.keeper s t honest opened a.0 b.0 };
+
+    ghost one_staged = { λ p a b honest opened x y. K.one_staged p.keeper a b honest opened x y };
+
+    ghost always = { λ none p. K.always none p.keeper };
+}

@@ -1,0 +1,48 @@
+-- What a caching keeper leaves where its inner keeper answers, or its cache.
+use Rattle.std.proofs.Common.{◌≡◌, Result, Ok, inl, refl, subst, sym}
+use Rattle.std.specs.Prelude.{IsErrOf}
+use Rattle.boxes.specs.Sound.{IsSound}
+use Rattle.boxes.specs.State.{State}
+use Rattle.boxes.specs.Bound.{StaysBy}
+use Rattle.boxes.specs.Keeping.{Stays}
+use Rattle.boxes.specs.declared.keep.KeepFault.{KeepFault}
+use Rattle.boxes.specs.declared.keep.KeepFault.TheVariants.{Store}
+use Rattle.boxes.specs.declared.keep.Keeper.{Ghosts}
+use Rattle.shelf.specs.Recalled.{Recalls}
+use Rattle.shelf.specs.declared.cached_keeper.CachedKeeper.{CachedKeeper}
+
+not_store : {T : Type 0} (x : T) → IsErrOf {T = T} (Ok x) Store → ⊥
+not_store x is = cc
+
+module _ {K T : Type 0} (k : Ghosts K) where
+  abbrev pub StaysCached : CachedKeeper K → CachedKeeper K → Result T KeepFault → Type 0
+  StaysCached =
+      Stays (λ c s. k.means c.keeper s × (k.is_honest c.keeper → IsSound s → Recalls c.cache s)) (λ c. k.is_honest c.keeper) (λ c. k.is_open c.keeper) (λ c. k.faults c.keeper)
+      (λ c s. k.leaves c.keeper s) (λ c. k.leaves_whole c.keeper) k.has_store
+
+  -- the inner keeper's answer was passed on
+  pub passed_on : (old new : CachedKeeper K) (answer result : Result T KeepFault) → StaysBy k old.keeper new.keeper answer → result ≡ answer → ((s : State) → Recalls old.cache s → Recalls new.cache s)
+      → StaysCached old new result
+  passed_on old new answer result inner is stays = subst (StaysCached old new) (sym is) (record {
+    same = λ s m. (inner.same s m.0, λ honest sound. stays s (m.1 (inner.honest honest) sound));
+    honest = inner.honest;
+    opened = inner.opened;
+    count = inner.count;
+    room = inner.room;
+    store = inner.store;
+    crash = λ s t m honest left. inner.crash s t m.0 honest left;
+    whole = λ s m honest whole. inner.whole s m.0 honest whole;
+  })
+
+  -- the cache answered
+  pub recalled : (c : CachedKeeper K) (x : T) → StaysCached c c (Ok x)
+  recalled c x = record {
+    same = λ s m. m;
+    honest = λ honest. honest;
+    opened = λ honest was. was;
+    count = record { err = tt; ok = refl };
+    room = tt;
+    store = λ is. absurd (not_store x is);
+    crash = λ s t m honest left. inl left;
+    whole = λ s m honest whole. whole;
+  }
