@@ -2,8 +2,7 @@
 ghost use Rattle.std.specs.Prelude.{◌≤◌, length};
 
 use boxes::{Change, Command, KeepFault, Keeper, Mode, NewFile, Role};
-use shelf::CachedKeeper;
-use shelf::Shelf;
+use shelf::{CachedKeeper, Shelf};
 use std::alloc::Global;
 use std::test::Fail;
 use trials::boxed::{add_box, office_row, settings};

@@ -4,9 +4,9 @@ ghost use Rattle.peers.specs.Counts.{Counts};
 ghost use Rattle.sockets.specs.Listening.{Event, closed};
 
 use boxes::Keeper;
+use commands::{Served, serve};
 use mio::Poll;
 use office::{Clock, Office};
-use commands::{Served, serve};
 use sockets::{Limits, Listener, TcpEnd, Unready};
 use std::alloc::Global;
 use std::net::TcpListener;

@@ -1,8 +1,8 @@
 //! Peers over loopback. They send everything before they are served.
 use crate::counting::{Counting, serve_counted};
+use commands::{Outcome, serve};
 use mio::Poll;
 use office::FixedClock;
-use commands::{Outcome, serve};
 use sigv4::Moment;
 use sockets::{End, Limits, Listener, TcpEnd};
 use std::io::{ErrorKind, Read, Write};

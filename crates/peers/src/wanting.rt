@@ -1,7 +1,7 @@
 //! A listener while the system has no descriptor left.
+use commands::serve;
 use mio::Poll;
 use office::FixedClock;
-use commands::serve;
 use sigv4::Moment;
 use sockets::{Limits, Listener, TcpEnd, Unready};
 use std::alloc::Global;
