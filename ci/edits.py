@@ -363,7 +363,7 @@ class Trial:
     def check(self, group):
         """Checks the functions that these edits name, over a copy of what is kept; the first check uses the folder itself."""
         begin, texts, functions = time.monotonic(), applied(self.crate, group), [it.function for it in group]
-        words = ["--jobs", str(1 if self.is_warm else max(1, self.lanes // 2)), *["--allow-holes"] * (len(group) > 1)]
+        words = ["--jobs", "1", *["--allow-holes"] * (len(group) > 1)]
         if all(functions):
             words += [word for it in functions for word in ("--only", it.partition("::")[2])]
         with tempfile.TemporaryDirectory(prefix="edits-", dir=self.folder.parent) as room:

@@ -6,8 +6,8 @@ The code of `rt` does the work. Four things are different here:
 - `rt` allows each check more memory than it was ever seen to take, so few run in parallel. Here it is half as much.
 - The crates with the most work behind them come first, by the seconds in ci/seconds.txt. `rt` counts lines.
 - Several processors take a quarter more time together than one takes alone. So a check has one.
-- With `--program`, the program is compiled by the run that proves it, and stays in `crates/NAME/out`. Without, two compilers build
-  it at the same time, and `rt` compares what both programs write.
+- With `--program`, Rattle's own compiler builds the program, which stays in `crates/NAME/out`. It takes half as long as LLVM, whose
+  program is a tenth faster. Without, both build it at the same time, and `rt` compares what both programs write.
 
 Before it begins, it says how long it will take. Then it shows a line that moves: how many crates are proved, which are at work,
 for how long, and how many minutes are left. The output of `rt` goes to a file, which that line names.
@@ -198,7 +198,7 @@ def expected(tasks, lanes):
 
 def arrange(progress, wants_program):
     """Has the code of `rt` run its tasks in our lanes, and tell how far they are."""
-    prove, compile_by, known = RT.Crate.ci, RT.Crate.compile_by, known_seconds()
+    compile_by, known = RT.Crate.compile_by, known_seconds()
 
     def in_our_lanes(tasks):
         ours = {}
@@ -214,20 +214,17 @@ def arrange(progress, wants_program):
 
         def kept(given, jobs):
             is_well = call(given, jobs)
-            made = pathlib.Path("crates", key[0], "out", key[0])
+            folder = pathlib.Path("crates", key[0], "out")
+            made = folder / f"{key[0]}{RT.BACKENDS['rattle']}"
             if wants_program and is_well and key[1] == "proof" and made.is_file():
-                (kit.ROOT / made).parent.mkdir(parents=True, exist_ok=True)
-                shutil.copy2(made, kit.ROOT / made)
+                (kit.ROOT / folder).mkdir(parents=True, exist_ok=True)
+                shutil.copy2(made, kit.ROOT / folder / key[0])
             return is_well
 
         return kept
 
-    def prove_and_compile(crate, flags, tests):
-        if tests or not crate.is_program:
-            return prove(crate, flags, tests)
-        words, made = crate.words(flags, keeps=False), f"out/{crate.name}"
-        how = ["--toolchain", f"{RT.KIT}/toolchain", "--backend", "llvm", "-o", f"{made}.o"]
-        return crate.prove(["build", *words, *how]) or crate.link(f"{made}.o", made)
+    def compile_quickly(crate, backend, words, to):
+        return compile_by(crate, backend, words, to) if backend == "rattle" else 0
 
     def compile_together(crate, backend, words, to):
         if backend == "rattle":
@@ -237,10 +234,7 @@ def arrange(progress, wants_program):
 
     others, compilers = {}, concurrent.futures.ThreadPoolExecutor()
     RT.in_lanes = in_our_lanes
-    if wants_program:
-        RT.Crate.ci = prove_and_compile
-    else:
-        RT.Crate.compile_by = compile_together
+    RT.Crate.compile_by = compile_quickly if wants_program else compile_together
 
 
 def proved(names):
@@ -253,7 +247,7 @@ def proved(names):
 
 def main():
     parser = argparse.ArgumentParser(description="Proves crates, and those that they stand on, in parallel.")
-    parser.add_argument("--program", action="store_true", help="build the program with one compiler, and keep it in crates/NAME/out")
+    parser.add_argument("--program", action="store_true", help="build the program with Rattle's own compiler, and keep it in crates/NAME/out")
     parser.add_argument("crates", nargs="*", metavar="CRATE", help="these crates; all if none is given")
     given = parser.parse_args()
     os.chdir(kit.ROOT)
