@@ -58,7 +58,7 @@ KEPT = pathlib.Path(os.environ.get("XDG_CACHE_HOME") or pathlib.Path.home() / ".
 UNGUARDED = pathlib.Path(__file__).with_name("unguarded.txt")
 # The crates whose functions are tests.
 OF_TESTS = ["examples", "trials", "streams", "stores", "peers", "caches"]
-# At least this many edits share a check, if there are that many: a check of one edit costs as much as one of ten.
+# At least this many edits share a check, if there are that many: each check also proves what its functions call.
 FEWEST = 64
 # A library that `rt ci` has built is complete once none of its files was written for so many seconds.
 SETTLES = 10

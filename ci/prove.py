@@ -224,6 +224,7 @@ def arrange(progress, wants_program):
         return kept
 
     def compile_quickly(crate, backend, words, to):
+        """Compiles with Rattle's own compiler alone."""
         return compile_by(crate, backend, words, to) if backend == "rattle" else 0
 
     def compile_together(crate, backend, words, to):
@@ -247,7 +248,8 @@ def proved(names):
 
 def main():
     parser = argparse.ArgumentParser(description="Proves crates, and those that they stand on, in parallel.")
-    parser.add_argument("--program", action="store_true", help="build the program with Rattle's own compiler, and keep it in crates/NAME/out")
+    how = "build the program with Rattle's own compiler, and keep it in crates/NAME/out"
+    parser.add_argument("--program", action="store_true", help=how)
     parser.add_argument("crates", nargs="*", metavar="CRATE", help="these crates; all if none is given")
     given = parser.parse_args()
     os.chdir(kit.ROOT)
