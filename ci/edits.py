@@ -6,9 +6,9 @@ processors to it. A crate's turn comes once its own library exists, since only a
 `rt` knows, a file has a line `fn: NAME`: the function that must be refused, as a check prints it. The code of `rt` applies
 the edits and runs the checks.
 
-A check looks at the functions that its edits name, at those that they call, and at the lemmas of both (`--only`), and at
-nothing else of the crate. Edits of the bodies of different functions share a check, since callers see only contracts. The
-check continues after a refusal (`--allow-holes`), to the goals of callers too. In a shared check an edit counts as refused
+A check looks at the functions that its edits name and at the lemmas of their proofs (`--only`). The functions that they call
+are taken at their contracts, which `rt ci` proves: a hole stands in the place of each one's proof (`--allow-holes`). Edits of
+the bodies of different functions share a check, since callers see only contracts. In a shared check an edit counts as refused
 only if its own function is refused, for its own goals or for a name. An edit that is not settled this way is tried alone, and
 so are edits of constants, types and specs. An edit that names no function is tried over the whole crate, by the rule of `rt`.
 What the first check of a crate proves is kept in a folder: each later check starts from a copy of it.
@@ -35,6 +35,7 @@ then are named and counted as skipped, and a later run tries them.
 import argparse
 import collections
 import concurrent.futures
+import copy
 import dataclasses
 import hashlib
 import math
@@ -52,14 +53,17 @@ from clauses import public_clauses
 
 RT = kit.rt()
 # The version of what counts as a refusal: it changes with that, so that nothing that was kept before counts.
-RULES = 3
+RULES = 4
 KEPT = pathlib.Path(os.environ.get("XDG_CACHE_HOME") or pathlib.Path.home() / ".cache") / "drop-edits"
 # The public clauses that no wrong body can break, each with the reason.
 UNGUARDED = pathlib.Path(__file__).with_name("unguarded.txt")
 # The crates whose functions are tests.
 OF_TESTS = ["examples", "trials", "streams", "stores", "peers", "caches"]
-# At least this many edits share a check, if there are that many: each check also proves what its functions call.
+# At least this many edits share a check, if there are that many: each check first reads the crate and those below it.
 FEWEST = 64
+# What a function's proof consists of, and a proof with a hole.
+PROOF_FILES = ["Answers.antt", "Invariants.antt", "Proof.antt"]
+HOLE = "use Rattle.{place}.Statement.{{statement}}\n\npub {name}_spec : {{M : Type 1}} → statement M\n{name}_spec = ?\n"
 # A library that `rt ci` has built is complete once none of its files was written for so many seconds.
 SETTLES = 10
 # A check takes less than this share of the memory that `rt` estimates for it: up to 2 GB were seen, 3.6 in `sqlkeeper`.
@@ -75,6 +79,8 @@ GONE = re.compile(r"has no field|is not in scope|has no `")
 NAMES = re.compile(rf"{GONE.pattern}|was not admitted")
 # The declaration of a proof file that an error is in.
 ERROR_IN = re.compile(r": error: `([\w.+-]+)`")
+# What a check with holes says of a function that it proves.
+PROVED = ("no holes", "depends on a hole in ")
 STILL_PROVED = "NOT REFUSED: the crate is still proved with this edit"
 BY_A_NAME = "refused, since a proof file names what it took away"
 NO_TIME = "SKIPPED: there was no time to try it"
@@ -206,6 +212,22 @@ def edits_in(folder, crate, count, is_harmless=False):
     return edits
 
 
+def with_holes(crate, functions, folder):
+    """A copy of the crate in this folder, with a hole for the proof of each function but these."""
+    shutil.copytree(crate.folder, folder, ignore=shutil.ignore_patterns("edits", "out"))
+    proofs = pathlib.Path(folder, "proofs")
+    for place in {it.parent for name in PROOF_FILES for it in proofs.rglob(name)}:
+        parts = place.relative_to(proofs).parts
+        if "::".join([crate.name, *parts]) not in functions:
+            for name in PROOF_FILES:
+                (place / name).unlink(missing_ok=True)
+            hole = HOLE.format(place=".".join([crate.name, "proofs", *parts]), name=place.name)
+            (place / "Proof.antt").write_text(hole, encoding="utf-8")
+    holed = copy.copy(crate)
+    holed.folder = str(folder)
+    return holed
+
+
 def applied(crate, group):
     """The crate's texts with these edits, or None if one cannot be combined with the others."""
     return RT.edited("\n".join(it.text for it in group), crate.folder)[0] if group else {}
@@ -288,6 +310,8 @@ class Reading:
         if self.lacks_names(edit.function):
             return BY_A_NAME
         said = self.verdict(edit.function)[0] or "there is no such function"
+        if said.startswith(PROVED):
+            return STILL_PROVED
         return f"BAD EDIT: refused, but not in {edit.function}, or for no goal of its own: {said[:200]}"
 
 
@@ -363,15 +387,16 @@ class Trial:
     def check(self, group):
         """Checks the functions that these edits name, over a copy of what is kept; the first check uses the folder itself."""
         begin, texts, functions = time.monotonic(), applied(self.crate, group), [it.function for it in group]
-        words = ["--jobs", "1", *["--allow-holes"] * (len(group) > 1)]
-        if all(functions):
-            words += [word for it in functions for word in ("--only", it.partition("::")[2])]
+        words, crate = ["--jobs", "1"], self.crate
         with tempfile.TemporaryDirectory(prefix="edits-", dir=self.folder.parent) as room:
             kept = self.folder
             if self.is_warm:
                 # antt replaces an old file with a new one, so linked files stay as they are
                 kept = shutil.copytree(self.folder, f"{room}/kept", copy_function=os.link)
-            ran = RT.checked(self.crate, texts, words, str(kept))
+            if all(functions):
+                words += ["--allow-holes", *(word for it in functions for word in ("--only", it.partition("::")[2]))]
+                crate = with_holes(self.crate, functions, f"{room}/crate")
+            ran = RT.checked(crate, texts, words, str(kept))
         return Reading(ran.returncode, ran.stdout, texts), time.monotonic() - begin
 
     def heard(self, group, reading, seconds):

@@ -4,8 +4,10 @@ use crate::faults::Fault;
 use crate::signing::KeyWork;
 use crate::work::{Done, say};
 use boxes::{Command, has_form};
-use desk::read_command;
-use links::{LinkFault, LinkKey, LinkOrder, Method, OrderParam, is_host, read_moment, write_link};
+use links::{
+    LinkFault, LinkKey, LinkOrder, Method, OrderParam, is_host, read_command, read_moment,
+    write_link,
+};
 use office::DESK;
 use sigtext::cut;
 use sigv4::{Moment, is_region};

@@ -17,11 +17,11 @@ use Rattle.boxes.specs.State.{Ends, Settings}
 use Rattle.boxes.specs.Steps.{Command, AddKey, RevokeKey, AddBox, CloseBox, DropFile, LimitKey, SetAllowance}
 use Rattle.boxes.specs.Sound.{is_box_byte}
 use Rattle.boxes.specs.Commands.{HasForm}
-use Rattle.desk.specs.Texts.{minute_word, IsNumber, SaysSettings, adds_key, revokes_key, adds_box, closes_box, drops_file, limits_key, sets_allowance, IsCommand}
-use Rattle.desk.proofs.Words.{differ, cut_once, word_lacks}
-use Rattle.desk.proofs.NineTexts.{nine_texts}
-use Rattle.desk.proofs.Commands.{text_of, added_box, revoked_key, set_allowance}
-use Rattle.desk.proofs.OneCommand.{cut_spaces, cuts_settings}
+use Rattle.links.specs.CommandTexts.{minute_word, IsNumber, SaysSettings, adds_key, revokes_key, adds_box, closes_box, drops_file, limits_key, sets_allowance, IsCommand}
+use Rattle.links.proofs.DeskWords.{differ, cut_once, word_lacks}
+use Rattle.links.proofs.NineTexts.{nine_texts}
+use Rattle.links.proofs.Commands.{text_of, added_box, revoked_key, set_allowance}
+use Rattle.links.proofs.OneCommand.{cut_spaces, cuts_settings}
 
 utf8 : (text : List ℕ) → AllByRecursion (λ b. b < 128) text → IsUtf8 text
 utf8 text small = IsUtf8-from_ascii text (IsAscii-from_all text (All-from_recursion (λ b. b < 128) text small))

@@ -11,7 +11,7 @@ use Rattle.boxes.specs.Limits.{MayUse}
 use Rattle.boxes.specs.State.{State}
 use Rattle.boxes.specs.Steps.{Command}
 use Rattle.examples.proofs.Limits.{one, its_box, no_other_box}
-use Rattle.desk.specs.Texts.{IsCommand}
+use Rattle.links.specs.CommandTexts.{IsCommand}
 use Rattle.office.specs.Rules.{judged_at, place_of, MaySend, FormRule, Asks}
 use Rattle.office.proofs.Deciding.{fetch_no_post, head_is}
 

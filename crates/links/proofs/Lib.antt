@@ -29,3 +29,8 @@ pub mod OrderedHeaders
 pub mod WrittenLinks
 pub mod Alike
 pub mod Faults
+pub mod DeskWords
+pub mod NineTexts
+pub mod Commands
+pub mod RuleWords
+pub mod OneCommand

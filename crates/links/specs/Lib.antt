@@ -10,3 +10,6 @@ pub mod Orders
 pub mod SameOrders
 pub mod Drafts
 pub mod Alike
+pub mod Finds
+pub mod CommandTexts
+pub mod CommandLines

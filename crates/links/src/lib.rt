@@ -1,6 +1,7 @@
-//! Presigned links: how they are written, which are well formed, and which are admitted.
+//! Presigned links: how they are written, which are well formed, and which are admitted. Commands of the desk, as they are read.
 #![tactic(auto)]
 
+pub mod desk;
 mod forms;
 pub mod inspecting;
 pub mod judging;
@@ -12,6 +13,7 @@ mod six;
 mod six_values;
 pub mod writing;
 
+pub use desk::{DeskLine, law_of_commands, read_command, read_number};
 pub use forms::{is_hex_digest, read_expiry};
 pub use inspecting::{inspect, read_moment};
 pub use judging::{check_signature, check_window, judge};

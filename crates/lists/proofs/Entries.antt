@@ -1,6 +1,6 @@
 -- The seven texts of a manifest's record, and the line that answers it.
 use Rattle.std.proofs.Common.{◌≡◌, ◌∙◌, ◌≤◌, ℕ, List, [], ◌∷◌, map, length, get_or, Bor, refl, subst, sym, arith}
-use Rattle.desk.specs.Texts.{IsNumber}
+use Rattle.links.specs.CommandTexts.{IsNumber}
 use Rattle.links.specs.Forms.{IsHexDigest}
 use Rattle.lists.specs.Lists.{line}
 use Rattle.lists.specs.Manifests.{IsManifestRow}

@@ -5,7 +5,7 @@ use Rattle.std.specs.List.{join_with_byte}
 use Rattle.std.specs.declared.alloc.Global.{Global}
 use Rattle.std.proofs.lemmas.List.{at_drop_more}
 use Rattle.std.proofs.lemmas.Option.{same_Some}
-use Rattle.desk.specs.Texts.{day_digit, days_word}
+use Rattle.links.specs.CommandTexts.{day_digit, days_word}
 use Rattle.sigtext.proofs.JoinedTexts.{joined_behind, joined_behind-cons, joined_behind-nothing}
 
 last_at : {X : Type 0} (y : X) (xs : List X) (x : X) → Some x ≡ slice_get (y ∷ xs) (length xs) → (front : List X) × (y ∷ xs ≡ front ++ x ∷ [])

@@ -17,7 +17,7 @@ use Rattle.boxes.specs.declared.totals.Totals.{Totals}
 use Rattle.boxes.proofs.NoBox.{all_at}
 use Rattle.std.specs.List.{join_with_byte}
 use Rattle.lists.specs.Lists.{line}
-use Rattle.desk.specs.Texts.{role_word}
+use Rattle.links.specs.CommandTexts.{role_word}
 use Rattle.lists.specs.Keys.{answer_word, AreLimits, IsKeyLine}
 use Rattle.lists.specs.Boxes.{IsBoxLine, IsBoxRecord, IsTotalsLine}
 use Rattle.lists.specs.Files.{IsFileLine, IsPlacedLine}

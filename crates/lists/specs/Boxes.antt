@@ -6,7 +6,7 @@ use Rattle.boxes.specs.State.{Settings, State}
 use Rattle.boxes.specs.Totals.{used, count}
 use Rattle.boxes.specs.declared.totals.Totals.{Totals}
 use Rattle.lists.specs.Lists.{line}
-use Rattle.desk.specs.Texts.{days_word, minute_word, mode_word, rule_words}
+use Rattle.links.specs.CommandTexts.{days_word, minute_word, mode_word, rule_words}
 
 abbrev pub boxes_head : List (List ℕ)
 boxes_head = codes "box" ∷ codes "opens" ∷ codes "closes" ∷ codes "days" ∷ codes "from" ∷ codes "to" ∷ codes "quota"

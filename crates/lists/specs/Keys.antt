@@ -6,7 +6,7 @@ use Rattle.sigtext.specs.Bytes.{bytes_cmp}
 use Rattle.boxes.specs.Limits.{IsLimitedTo}
 use Rattle.boxes.specs.State.{Key, State}
 use Rattle.lists.specs.Lists.{line}
-use Rattle.desk.specs.Texts.{role_word}
+use Rattle.links.specs.CommandTexts.{role_word}
 
 abbrev pub keys_head : List (List ℕ)
 keys_head = codes "key" ∷ codes "role" ∷ codes "revoked" ∷ codes "boxes" ∷ []

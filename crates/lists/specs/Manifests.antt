@@ -10,7 +10,7 @@ use Rattle.boxes.specs.Sound.{IsMoment}
 use Rattle.boxes.specs.State.{State, Place, File, Receipt}
 use Rattle.wire.specs.Sending.{Sends}
 use Rattle.links.specs.Forms.{IsHexDigest}
-use Rattle.desk.specs.Texts.{IsNumber}
+use Rattle.links.specs.CommandTexts.{IsNumber}
 use Rattle.lists.specs.Lists.{line, AreLines, IsTable}
 use Rattle.lists.specs.declared.comparing.Entry as comparing
 use Rattle.lists.specs.declared.comparing.Comparison.{Comparison}

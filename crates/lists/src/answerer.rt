@@ -2,7 +2,7 @@
 ghost use Rattle.std.specs.Prelude.{ℕ, List, ⊤, Result, Ok, IfOk, IfErr, IfNone};
 ghost use Rattle.csv.specs.Records.{fields_of};
 ghost use Rattle.boxes.specs.declared.keep.KeepFault.{KeepFault};
-ghost use Rattle.desk.specs.Finds.{IfFound};
+ghost use Rattle.links.specs.Finds.{IfFound};
 ghost use Rattle.lists.specs.Lists.{by_keeper, IsOfAnswering};
 
 use crate::list_fault::ListFault;

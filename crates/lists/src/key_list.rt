@@ -11,7 +11,7 @@ ghost use Rattle.boxes.specs.Bound.{StaysBy};
 ghost use Rattle.boxes.specs.Next.{IsKey, IsNext};
 ghost use Rattle.lists.specs.Asking.{Meant};
 ghost use Rattle.lists.specs.Lists.{line, by_keeper, by_writer, IsOfAnswering, IsOfManifest};
-ghost use Rattle.desk.specs.Texts.{role_word};
+ghost use Rattle.links.specs.CommandTexts.{role_word};
 ghost use Rattle.lists.specs.Keys.{answer_word, keys_head, AreLimits, IsKeyLine, IsLast};
 ghost use Rattle.lists.specs.Written.{SendsLines, WritesList};
 

@@ -2,7 +2,7 @@
 ghost use Rattle.std.specs.Prelude.{◌≡◌, ◌+◌, ◌%◌, IfOk, map};
 ghost use Rattle.std.specs.List.{join_with_byte};
 ghost use Rattle.boxes.specs.Rows.{name_rule_of};
-ghost use Rattle.desk.specs.Texts.{day_digit, days_word, minute_word, mode_word, role_word, rule_words};
+ghost use Rattle.links.specs.CommandTexts.{day_digit, days_word, minute_word, mode_word, role_word, rule_words};
 ghost use Rattle.lists.specs.Keys.{answer_word};
 
 use boxes::{Mode, NameRule, Role};

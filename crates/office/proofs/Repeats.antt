@@ -14,8 +14,8 @@ use Rattle.boxes.specs.State.{Place, State}
 use Rattle.boxes.specs.Rules.{Upload}
 use Rattle.boxes.specs.Steps.{Command, DropFile, CommandStep, FetchStep, UploadStep, again, found, taken}
 use Rattle.boxes.specs.Steps as step
-use Rattle.desk.specs.Texts.{IsCommand}
-use Rattle.desk.proofs.OneCommand.{command_once}
+use Rattle.links.specs.CommandTexts.{IsCommand}
+use Rattle.links.proofs.OneCommand.{command_once}
 use Rattle.wire.specs.Answers.{Said}
 use Rattle.office.specs.Admitted.{ReachesBoxes}
 use Rattle.office.specs.Answering.{AcceptsRequest, put, fetch, post, Replies, refuses, accepts, shown}

@@ -4,7 +4,7 @@ use Rattle.boxes.specs.Changes.{IsObeyed}
 use Rattle.boxes.specs.Commands.{HasForm}
 use Rattle.boxes.specs.State.{State}
 use Rattle.boxes.specs.Steps.{Command, IsPossible}
-use Rattle.desk.specs.Texts.{IsCommand}
+use Rattle.links.specs.CommandTexts.{IsCommand}
 use Rattle.boxes.specs.declared.keep.KeepFault.TheVariants.{Full}
 use Rattle.office.specs.declared.requests.commanding.DeskFault.{DeskFault}
 use Rattle.office.specs.declared.requests.commanding.DeskFault.TheVariants as fault

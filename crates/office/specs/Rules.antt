@@ -14,7 +14,7 @@ use Rattle.boxes.specs.Limits.{MayUse}
 use Rattle.boxes.specs.Rules.{Upload, UploadRule, FetchRule}
 use Rattle.boxes.specs.Commands.{HasForm}
 use Rattle.boxes.specs.Steps.{Command, IsPossible}
-use Rattle.desk.specs.Texts.{IsCommand}
+use Rattle.links.specs.CommandTexts.{IsCommand}
 
 abbrev pub IsPut : Request → Type 0
 IsPut r = r.method ≡ codes "PUT"

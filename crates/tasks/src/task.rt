@@ -268,30 +268,24 @@ impl<'a> Task<'a> {
         ensures task { IfSome result (IsTaskIn (subcommand_rows_of matches.now)) }
         ensures named { NamesInit (subcommand_rows_of matches.now) → IsSome result }
     {
-        matches
-            .subcommand_matches("init")
-            .and_then(Init::of_matches)
-            .map(Task::Init)
+        let values = matches.subcommand_matches("init")?;
+        Some(Task::Init(Init::of_matches(values)?))
     }
 
     fn desk_in(matches: &ArgMatches<'a>) -> Option<Task<'a>>
         ensures task { IfSome result (IsTaskIn (subcommand_rows_of matches.now)) }
         ensures named { NamesDesk (subcommand_rows_of matches.now) → IsSome result }
     {
-        matches
-            .subcommand_matches("desk")
-            .and_then(Desk::of_matches)
-            .map(Task::Desk)
+        let values = matches.subcommand_matches("desk")?;
+        Some(Task::Desk(Desk::of_matches(values)?))
     }
 
     fn link_in(matches: &ArgMatches<'a>) -> Option<Task<'a>>
         ensures task { IfSome result (IsTaskIn (subcommand_rows_of matches.now)) }
         ensures named { NamesLink (subcommand_rows_of matches.now) → IsSome result }
     {
-        matches
-            .subcommand_matches("link")
-            .and_then(Link::of_matches)
-            .map(Task::Link)
+        let values = matches.subcommand_matches("link")?;
+        Some(Task::Link(Link::of_matches(values)?))
     }
 
     // A list that is read or written, or an export.
@@ -310,70 +304,56 @@ impl<'a> Task<'a> {
         ensures task { IfSome result (IsTaskIn (subcommand_rows_of matches.now)) }
         ensures named { NamesLinks (subcommand_rows_of matches.now) → IsSome result }
     {
-        matches
-            .subcommand_matches("links")
-            .and_then(Links::of_matches)
-            .map(Task::Links)
+        let values = matches.subcommand_matches("links")?;
+        Some(Task::Links(Links::of_matches(values)?))
     }
 
     fn manifest_in(matches: &ArgMatches<'a>) -> Option<Task<'a>>
         ensures task { IfSome result (IsTaskIn (subcommand_rows_of matches.now)) }
         ensures named { NamesManifest (subcommand_rows_of matches.now) → IsSome result }
     {
-        matches
-            .subcommand_matches("manifest")
-            .and_then(OfficeFile::of_matches)
-            .map(Task::Manifest)
+        let values = matches.subcommand_matches("manifest")?;
+        Some(Task::Manifest(OfficeFile::of_matches(values)?))
     }
 
     fn compare_in(matches: &ArgMatches<'a>) -> Option<Task<'a>>
         ensures task { IfSome result (IsTaskIn (subcommand_rows_of matches.now)) }
         ensures named { NamesCompare (subcommand_rows_of matches.now) → IsSome result }
     {
-        matches
-            .subcommand_matches("compare")
-            .and_then(OfficeFile::of_matches)
-            .map(Task::Compare)
+        let values = matches.subcommand_matches("compare")?;
+        Some(Task::Compare(OfficeFile::of_matches(values)?))
     }
 
     fn listing_in(matches: &ArgMatches<'a>) -> Option<Task<'a>>
         ensures task { IfSome result (IsTaskIn (subcommand_rows_of matches.now)) }
         ensures named { NamesListing (subcommand_rows_of matches.now) → IsSome result }
     {
-        matches
-            .subcommand_matches("list")
-            .and_then(Listing::of_matches)
-            .map(Task::List)
+        let values = matches.subcommand_matches("list")?;
+        Some(Task::List(Listing::of_matches(values)?))
     }
 
     fn export_in(matches: &ArgMatches<'a>) -> Option<Task<'a>>
         ensures task { IfSome result (IsTaskIn (subcommand_rows_of matches.now)) }
         ensures named { NamesExport (subcommand_rows_of matches.now) → IsSome result }
     {
-        matches
-            .subcommand_matches("export")
-            .and_then(Export::of_matches)
-            .map(Task::Export)
+        let values = matches.subcommand_matches("export")?;
+        Some(Task::Export(Export::of_matches(values)?))
     }
 
     fn serve_in(matches: &ArgMatches<'a>) -> Option<Task<'a>>
         ensures task { IfSome result (IsTaskIn (subcommand_rows_of matches.now)) }
         ensures named { NamesServe (subcommand_rows_of matches.now) → IsSome result }
     {
-        matches
-            .subcommand_matches("serve")
-            .and_then(Serve::of_matches)
-            .map(Task::Serve)
+        let values = matches.subcommand_matches("serve")?;
+        Some(Task::Serve(Serve::of_matches(values)?))
     }
 
     fn migrate_in(matches: &ArgMatches<'a>) -> Option<Task<'a>>
         ensures task { IfSome result (IsTaskIn (subcommand_rows_of matches.now)) }
         ensures named { NamesMigrate (subcommand_rows_of matches.now) → IsSome result }
     {
-        matches
-            .subcommand_matches("migrate")
-            .and_then(OfficeFile::of_matches)
-            .map(Task::Migrate)
+        let values = matches.subcommand_matches("migrate")?;
+        Some(Task::Migrate(OfficeFile::of_matches(values)?))
     }
 
     fn replay_in(alloc: Global, matches: &ArgMatches<'a>) -> Result<Option<Task<'a>>, AllocError>

@@ -626,19 +626,12 @@ fn arg_of<'a>(alloc: Global, argument: &Argument) -> Arg<'a>
     match argument.given {
         Given::Word => arg,
         Given::Words => arg.num_args(1..),
-        Given::Option(value) => with_value(arg.long(argument.id), value),
-    }
-}
-
-// An option with this value.
-fn with_value<'a>(arg: Arg<'a>, value: Value) -> Arg<'a>
-    ensures rule { rule_of result ≡ valued (rule_of arg.entry) value }
-    ensures local { result.global ≡ arg.entry.global }
-{
-    match value {
-        Value::Text => arg,
-        Value::Number(least, most) => arg.value_parser(ValueParser::unsigned(least, most)),
-        Value::Defaulted(least, most, default) => arg
+        Given::Option(Value::Text) => arg.long(argument.id),
+        Given::Option(Value::Number(least, most)) => arg
+            .long(argument.id)
+            .value_parser(ValueParser::unsigned(least, most)),
+        Given::Option(Value::Defaulted(least, most, default)) => arg
+            .long(argument.id)
             .value_parser(ValueParser::unsigned(least, most))
             .default_value(default),
     }

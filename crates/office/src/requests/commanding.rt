@@ -5,8 +5,7 @@ ghost use Rattle.std.specs.Prelude.{◌≡◌};
 use super::places::decoded_path;
 use crate::office::Office;
 use boxes::{Change, Command, DeskView, KeepFault, Keeper, KeyRow, desk as decide, law_of_changes};
-use desk::read_command;
-use links::LinkParts;
+use links::{LinkParts, read_command};
 use sigtext::Refusal;
 use thiserror::Error;
 use wire::Reply;
@@ -58,7 +57,7 @@ impl<K: Keeper> Office<K> {
     ghost use Rattle.boxes.specs.Keeping.{KeepsStaged};
     ghost use Rattle.links.specs.LinkReadings.{IsLinkOf};
     ghost use Rattle.links.specs.WellFormed.{LinkValues};
-    ghost use Rattle.desk.specs.Lines.{HasListedRule};
+    ghost use Rattle.links.specs.CommandLines.{HasListedRule};
     ghost use Rattle.office.specs.Admitted.{ReachesBoxes};
     ghost use Rattle.office.specs.Crashes.{Endures, IsToldBy, RefusedLasts, UndoneLasts};
     ghost use Rattle.office.specs.DeskLines.{IsKeepers, IsObeyedBy};
@@ -207,7 +206,7 @@ impl<K: Keeper> Office<K> {
         }
     }
 
-    /// Does what a desk line says; for the forms see `desk::read_command`. What was done survives a crash. A
+    /// Does what a desk line says; for the forms see `links::read_command`. What was done survives a crash. A
     /// keeper that was open stays open, unless its own fault is the error.
     ///
     /// # Errors

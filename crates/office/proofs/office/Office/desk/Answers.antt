@@ -1,7 +1,7 @@
 use Rattle.std.proofs.Common.{◌≡◌, Some, sym, subst, ◌∙◌, inl, arith}
 use Rattle.boxes.specs.Changes.{command_of}
 use Rattle.boxes.specs.Steps.{Command}
-use Rattle.desk.specs.Lines.{said}
+use Rattle.links.specs.CommandLines.{said}
 use Rattle.office.specs.Crashes.{Endures}
 use Rattle.office.specs.DeskLines.{IsDeskLine}
 use Rattle.office.proofs.Endurance.{undone_more}

@@ -1,5 +1,0 @@
-use Rattle.std.proofs.Common.{arith}
-use Rattle.desk.proofs.values.read_two.Goals as goal
-
-pub overflow_sub-low : goal.overflow_sub-low
-overflow_sub-low c = grind arith

@@ -1,3 +1,0 @@
-pub mod Finds
-pub mod Texts
-pub mod Lines
