@@ -7,11 +7,11 @@ processors to it. A crate's turn comes once its own library exists, since only a
 the edits and runs the checks.
 
 A check looks at the functions that its edits name and at the lemmas of their proofs (`--only`). The functions that they call
-are taken at their contracts, which `rt ci` proves: a hole stands in the place of each one's proof (`--allow-holes`). Edits of
-the bodies of different functions share a check, since callers see only contracts. In a shared check an edit counts as refused
-only if its own function is refused, for its own goals or for a name. An edit that is not settled this way is tried alone, and
-so are edits of constants, types and specs. An edit that names no function is tried over the whole crate, by the rule of `rt`.
-What the first check of a crate proves is kept in a folder: each later check starts from a copy of it.
+are taken at their contracts, which `rt ci` proves: a hole stands for each of their proofs that has a file (`--allow-holes`).
+Edits of the bodies of different functions share a check, since callers see only contracts. In a shared check an edit counts
+as refused only if its own function is refused, for its own goals or for a name. An edit that is not settled this way is tried
+alone, and so are edits of constants, types and specs. An edit that names no function is tried over the whole crate, by the
+rule of `rt`. What the first check of a crate proves is kept in a folder: each later check starts from a copy of it.
 
 If a proof file names what an edit removed, or a lemma that the file depends on does, the refusal shows less: it may be for the
 name alone. Such an edit counts, and is reported. In a shared check it counts if the function's own proof file names what is
@@ -213,7 +213,7 @@ def edits_in(folder, crate, count, is_harmless=False):
 
 
 def with_holes(crate, functions, folder):
-    """A copy of the crate in this folder, with a hole for the proof of each function but these."""
+    """A copy of the crate in this folder, with a hole for each function's proof that has a file, but for these functions."""
     shutil.copytree(crate.folder, folder, ignore=shutil.ignore_patterns("edits", "out"))
     proofs = pathlib.Path(folder, "proofs")
     for place in {it.parent for name in PROOF_FILES for it in proofs.rglob(name)}:
