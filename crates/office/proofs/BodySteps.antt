@@ -41,7 +41,8 @@ use Rattle.office.specs.Premise.{IsFault, WasKept}
 use Rattle.boxes.specs.declared.keep.KeepFault.{KeepFault}
 use Rattle.wire.specs.Feeds.{left, reader_of, waits_in}
 use Rattle.wire.specs.declared.feed.Place.{Place}
-use Rattle.office.proofs.KeeperCalls.{Quiet, quiet_then}
+use Rattle.office.specs.Frames.{Quiet}
+use Rattle.office.proofs.KeeperCalls.{quiet_then}
 use Rattle.office.proofs.Stagings.{reader_taken}
 use Rattle.office.proofs.SessionSteps.{Before, answered_step, broken_step, closed_step, gave_up_reading_step, gave_up_step, leaves_given_up, leaves_quiet, read_failed_giving_up_step, read_failed_step, steps_after}
 
@@ -150,7 +151,7 @@ module _ {R C K : Type 0} (remaining : R → Option (List ℕ)) (size : ℕ) (ol
       → LeavesOff output output' k mid b upload e → Steps gives p known (left remaining new) (remaining (reader_of new).inner) output output' clock clock k a b s (Some e)
   lacking_step e mid upload first second kept lacking is (inl (closed, rest)) =
       closed_step gives p known (left remaining new) (remaining (reader_of new).inner) output output' clock k a b s rule.BodyIncomplete e
-      (leaves_quiet k a b s ⊥ (quiet_then first (record { means = second.means; crash = second.crash; rest = rest })) kept (λ none. none))
+      (leaves_quiet k a b s ⊥ (quiet_then first (record { same = second.same; crash = second.crash; rest = rest })) kept (λ none. none))
       (lacks s size known (left remaining old) foreseen to_head x lacking.1 lacking.2) closed
   lacking_step e mid upload first second kept lacking is (inr (closed, up)) =
       given_up_step e lacking.3 (MayGiveUp k mid b e) (quiet_then first second) kept lacking.4 (is up) closed

@@ -1,6 +1,13 @@
--- The ways in which reading a body ends are different.
+-- The ways in which reading a body ends are different, and so are the ends of a session.
 use Rattle.std.proofs.Common.{◌≡◌, ℕ, List}
+use Rattle.wire.specs.declared.session.SessionEnd.TheVariants.{Limit, ReadFault, WriteFault}
 use Rattle.office.specs.declared.connections.receiving.Received.TheVariants as received
+
+pub limit_no_read : Limit ≡ ReadFault → ⊥
+limit_no_read is = cc
+
+pub limit_no_write : Limit ≡ WriteFault → ⊥
+limit_no_write is = cc
 
 pub gave_up_not_whole : (digest : List ℕ) → received.GaveUp ≡ received.Whole digest → ⊥
 gave_up_not_whole digest is = cc

@@ -62,7 +62,10 @@ pub gave_reply : (P : Reply → Type 0) (x : Reply) (result : Result Reply Refus
 gave_reply P x (Ok y) gives holds = subst P (ok_is x y (Ok y) (gives (ok_no_err y rule.TryAgain (Ok y) refl)) refl) holds
 gave_reply P x (Err y) gives holds = tt
 
--- a receipt is no refusal
+-- a receipt is no refusal, and neither is the reply to a command
+pub done_plain : IsNoRefusal reply.Done
+done_plain q other = cc
+
 pub kept_plain : (x : Reply) (number size : ℕ) (digest : List ℕ) → x ≡ reply.Kept number size digest → IsNoRefusal x
 kept_plain x number size digest is q other = cc
 

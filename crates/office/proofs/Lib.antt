@@ -27,6 +27,7 @@ pub mod Stagings
 mod Foreseen
 mod Staged
 mod Unstaged
+mod Replied
 pub mod StagedSoFar
 pub mod RunTurns
 pub mod SeatTurns

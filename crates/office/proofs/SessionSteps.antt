@@ -27,7 +27,7 @@ use Rattle.office.specs.Crashes.{AddsStanding, never_changed}
 use Rattle.office.proofs.Endurance.{still, survives_asked, survives_same, survives_through, then_survives, then_through, through_after}
 use Rattle.office.specs.Handling.{Handles, answered, gave_up_at, broke, broke_giving_up_at}
 use Rattle.office.specs.Premise.{HoldsUp, IsLeft, WasKept}
-use Rattle.office.proofs.KeeperCalls.{Quiet}
+use Rattle.office.specs.Frames.{Quiet}
 use Rattle.office.specs.Sessions.{EndsAtOnce, HasBegunMessage, Session, MayGiveUpReading}
 use Rattle.office.proofs.Begun.{message_begun, none_begun}
 use Rattle.office.specs.Sessions as session
@@ -281,14 +281,14 @@ pub record Leaves {K : Type 0} (k : Ghosts K) (old new : K) (s : State) (gave_up
 -- calls that leave the state unchanged
 pub leaves_quiet : {K : Type 0} (k : Ghosts K) (old new : K) (s : State) (gave_up : Type 0) → Quiet k old new gave_up → WasKept k old new s → (gave_up → ⊥) → Leaves k old new s false
 leaves_quiet k old new s gave_up quiet kept other = record {
-  keeps = record { means = quiet.means s kept.means; sound = kept.sound };
+  keeps = record { means = quiet.same s kept.means; sound = kept.sound };
   held = (quiet.rest.counted other, λ was. quiet.rest.opened kept.is_honest was other);
   adds = quiet.crash s kept.means kept.is_honest;
 }
 
 pub leaves_given_up : {K : Type 0} (k : Ghosts K) (old new : K) (s : State) (gave_up : Type 0) → Quiet k old new gave_up → WasKept k old new s → Leaves k old new s true
 leaves_given_up k old new s gave_up quiet kept = record {
-  keeps = record { means = quiet.means s kept.means; sound = kept.sound };
+  keeps = record { means = quiet.same s kept.means; sound = kept.sound };
   held = quiet.rest.never_less;
   adds = quiet.crash s kept.means kept.is_honest;
 }

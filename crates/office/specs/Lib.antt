@@ -8,6 +8,7 @@ pub mod Crashes
 pub mod Crowds
 pub mod DeskLines
 pub mod Foreseeing
+pub mod Frames
 pub mod Handling
 pub mod Interleaved
 pub mod Offices

@@ -84,7 +84,8 @@ impl<K: Keeper> Office<K> {
     }
 
     /// Serves connections that come and go, each in the turns that the crowd gives it, until no more turns
-    /// are due. Returns how many connections ended by a failed read or write.
+    /// are due. All slots are to be free at first. Returns how many connections ended by a failed read or
+    /// write.
     ///
     /// There is one order of all messages in which the machine leads from the state before to the state
     /// after. For each connection that came, the bytes read, the answers and the end are those of its own
@@ -105,8 +106,8 @@ impl<K: Keeper> Office<K> {
         slots: &mut [Option<Seat<R, W>>],
         clock: &mut C,
     ) -> u64
-        requires { (p : ℕ) → slot_at slots.old p ≡ None }
-        ensures serves { (before gone : List (Seat R W)) → G.met crowd.old before gone
+        ensures serves { ((p : ℕ) → slot_at slots.old p ≡ None)
+            → (before gone : List (Seat R W)) → G.met crowd.old before gone
             → (numbers : ℕ → ℕ) (given : List ℕ) → G.gave crowd.old numbers given
             → (came went : List (Seat R W)) × G.met crowd.new (before ++ came) (gone ++ went)
             × (numbered : ℕ → ℕ) × (more : List ℕ) × G.gave crowd.new numbered (given ++ more)

@@ -49,10 +49,9 @@ fn pass_over<R: Read>(feed: &mut Feed<'_, R>, size: usize) -> Received
 }
 
 impl<K: Keeper> Office<K> {
-    ghost use Rattle.std.specs.Prelude.{◌≡◌, ◌≢◌, ◌<◌, ◌≤◌, ℕ, List, [], ◌++◌, length, IsTrue, IsFalse, OnErr, OnOk};
+    ghost use Rattle.std.specs.Prelude.{◌≡◌, ◌≢◌, ◌<◌, ◌≤◌, ℕ, List, ◌++◌, length, IsTrue, IsFalse, OnErr, OnOk};
     ghost use Rattle.std.specs.Io.KnownBytes.{Consumes};
     ghost use Rattle.sigtext.specs.Counts.{Rose};
-    ghost use Rattle.boxes.specs.State.{State};
     ghost use Rattle.boxes.specs.Bound.{StaysBy};
     ghost use Rattle.boxes.specs.Keeping.{KeepsStaged};
     ghost use Rattle.sigtext.specs.Bytes.{AreBytes};
@@ -60,8 +59,8 @@ impl<K: Keeper> Office<K> {
     ghost use Rattle.wire.specs.Feeds.{SameReader, left, place_of, reader_of};
     ghost use Rattle.wire.specs.Whole.{LacksBody, TakesBody};
     ghost use Rattle.wire.specs.declared.feed.Place.TheVariants as stands;
-    ghost use Rattle.office.specs.Crashes.{AddsStanding};
-    ghost use Rattle.office.specs.Premise.{EndsUnstaged, HoldsUnless, IsFault, StaysUnstaged};
+    ghost use Rattle.office.specs.Frames.{Quiet};
+    ghost use Rattle.office.specs.Premise.{EndsUnstaged, IsFault, StaysUnstaged};
     ghost use Rattle.office.specs.Receiving.{StagesBody};
 
     // Stages a piece of a body and feeds it to the hasher.
@@ -97,12 +96,9 @@ impl<K: Keeper> Office<K> {
             → Rose (reader_of feed.old).faults (reader_of feed.new).faults }
         ensures clean { (result ≢ Received.Broken)
             → (reader_of feed.new).faults ≡ (reader_of feed.old).faults }
-        ensures means { (s : State) → K.means self.old.keeper s → K.means self.new.keeper s }
-        ensures crash { (s : State) → K.means self.old.keeper s → K.is_honest self.new.keeper
-            → AddsStanding K.Keeper self.old.keeper self.new.keeper s }
         ensures counts { result ≡ Received.GaveUp
             → Rose (K.faults self.old.keeper) (K.faults self.new.keeper) }
-        ensures rest { HoldsUnless K.Keeper self.old.keeper self.new.keeper
+        ensures quiet { Quiet K.Keeper self.old.keeper self.new.keeper
             (result ≡ Received.GaveUp) }
     {
         if self.keeper.stage_begin().is_err() {
@@ -148,13 +144,10 @@ impl<K: Keeper> Office<K> {
             → Rose (reader_of feed.old).faults (reader_of feed.new).faults }
         ensures clean { (result ≢ Received.Broken)
             → (reader_of feed.new).faults ≡ (reader_of feed.old).faults }
-        ensures means { (s : State) → K.means self.old.keeper s → K.means self.new.keeper s }
-        ensures crash { (s : State) → K.means self.old.keeper s → K.is_honest self.new.keeper
-            → AddsStanding K.Keeper self.old.keeper self.new.keeper s }
         ensures passed { IsFalse is_upload → KeepsStaged K.stages self.old.keeper self.new.keeper }
         ensures counts { result ≡ Received.GaveUp
             → Rose (K.faults self.old.keeper) (K.faults self.new.keeper) }
-        ensures rest { HoldsUnless K.Keeper self.old.keeper self.new.keeper
+        ensures quiet { Quiet K.Keeper self.old.keeper self.new.keeper
             (result ≡ Received.GaveUp) }
     {
         if is_upload {
@@ -166,14 +159,11 @@ impl<K: Keeper> Office<K> {
 
     // Drops what is staged of an upload.
     pub(crate) fn drop_staged(&mut self, is_upload: bool) -> Result<(), KeepFault>
-        ensures means { (s : State) → K.means self.old.keeper s → K.means self.new.keeper s }
-        ensures crash { (s : State) → K.means self.old.keeper s → K.is_honest self.new.keeper
-            → AddsStanding K.Keeper self.old.keeper self.new.keeper s }
         ensures ends { IsTrue is_upload → EndsUnstaged K.Keeper self.old.keeper self.new.keeper }
         ensures stays { StaysUnstaged K.Keeper self.old.keeper self.new.keeper }
         ensures counts { OnErr result (Rose (K.faults self.old.keeper) (K.faults self.new.keeper)) }
         ensures asked { OnErr result (IsTrue is_upload) }
-        ensures rest { HoldsUnless K.Keeper self.old.keeper self.new.keeper (IsFault result) }
+        ensures quiet { Quiet K.Keeper self.old.keeper self.new.keeper (IsFault result) }
     {
         if is_upload {
             self.keeper.stage_drop()

@@ -55,11 +55,10 @@ impl<K: Keeper> Office<K> {
     ghost use Rattle.wire.specs.declared.feed.Place.TheVariants as stands;
     ghost use Rattle.office.specs.Answering.{is_head};
     ghost use Rattle.office.specs.Connections.{MayGiveUp};
-    ghost use Rattle.office.specs.Crashes.{AddsStanding};
     ghost use Rattle.office.specs.Foreseeing.{AreStaged, Foresees, IsUpload};
+    ghost use Rattle.office.specs.Frames.{Quiet};
     ghost use Rattle.office.specs.Handling.{Handles, MayBeGivenUp};
     ghost use Rattle.office.specs.Premise.{EndsUnstaged, HoldsUnless, StaysUnstaged, WasKept};
-    ghost use Rattle.office.specs.Readable.{IsReadable};
     ghost use Rattle.office.specs.Stepping.{IsExpected, LeavesOff, Steps, TellsStep};
 
     // Handles a message whose body came: takes its moment and writes its answer.
@@ -97,12 +96,9 @@ impl<K: Keeper> Office<K> {
         ensures fault { result ≡ SessionEnd.WriteFault → Rose writer.old.faults writer.new.faults }
         ensures clean { (result ≢ SessionEnd.WriteFault) → writer.new.faults ≡ writer.old.faults }
         ensures end { result ≢ SessionEnd.ReadFault }
-        ensures means { (s : State) → K.means self.old.keeper s → K.means self.new.keeper s }
-        ensures crash { (s : State) → K.means self.old.keeper s → K.is_honest self.new.keeper
-            → AddsStanding K.Keeper self.old.keeper self.new.keeper s }
         ensures ends { IsTrue is_upload → EndsUnstaged K.Keeper self.old.keeper self.new.keeper }
         ensures stays { StaysUnstaged K.Keeper self.old.keeper self.new.keeper }
-        ensures rest { HoldsUnless K.Keeper self.old.keeper self.new.keeper (MayGiveUp K.Keeper self.old.keeper self.new.keeper result) }
+        ensures quiet { Quiet K.Keeper self.old.keeper self.new.keeper (MayGiveUp K.Keeper self.old.keeper self.new.keeper result) }
     {
         match self.drop_staged(is_upload) {
             Ok(()) => close(Refusal::BodyIncomplete, writer),

@@ -6,7 +6,7 @@ use sigtext::Refusal;
 use sigv4::{Allowance, Moment};
 
 impl<K: Keeper> Office<K> {
-    ghost use Rattle.std.specs.Prelude.{◌≡◌, ◌≢◌, ◌↔◌, ℕ, Err, IfOk, MatchResult};
+    ghost use Rattle.std.specs.Prelude.{◌≡◌, ◌≢◌, ◌↔◌, Err, IfOk, MatchResult};
     ghost use Rattle.sigtext.specs.Request.{Request};
     ghost use Rattle.sigtext.specs.Rules.{IsFirstToFail};
     ghost use Rattle.boxes.specs.State.{Key, State};
@@ -16,9 +16,9 @@ impl<K: Keeper> Office<K> {
     ghost use Rattle.links.specs.Moments.{HasBegun, moment_with};
     ghost use Rattle.links.specs.WellFormed.{LinkValues};
     ghost use Rattle.office.specs.Admitted.{IsAdmitted};
-    ghost use Rattle.office.specs.Crashes.{AddsStanding};
     ghost use Rattle.office.specs.Foreseeing.{IsSigned, IsAlwaysRefused};
-    ghost use Rattle.office.specs.Premise.{HoldsUnless, IsGivenUp, WasKept};
+    ghost use Rattle.office.specs.Frames.{Looks};
+    ghost use Rattle.office.specs.Premise.{IsGivenUp, WasKept};
     ghost use Rattle.office.specs.Rules.{Rule, judged_at};
 
     // The role of the key that signed a link, or the refusal of the first of rules 19 to 21 that fails, or
@@ -29,11 +29,7 @@ impl<K: Keeper> Office<K> {
             → IsLinkOf link.now r p
             → MatchResult result (λ role. (k : Key) × IsSigned s r p k × (k.role ≡ role))
             (IsAlwaysRefused s r) }
-        ensures same { (s : State) → K.means self.old.keeper s → K.means self.new.keeper s }
-        ensures crash { (s : State) → K.means self.old.keeper s → K.is_honest self.new.keeper
-            → AddsStanding K.Keeper self.old.keeper self.new.keeper s }
-        ensures staged { KeepsStaged K.stages self.old.keeper self.new.keeper }
-        ensures rest { HoldsUnless K.Keeper self.old.keeper self.new.keeper (IsGivenUp result) }
+        ensures looks { Looks K.Keeper self.old.keeper self.new.keeper (IsGivenUp result) }
     {
         match self.keeper.key(link.key_id()) {
             Ok(None) => Err(Refusal::KeyUnknown),
@@ -75,11 +71,7 @@ impl<K: Keeper> Office<K> {
             → IsLinkOf link.now r p → IsSigned s r p k
             → MatchResult result (λ done. IsAdmitted s r now p k)
             (λ q. (q ≢ Refusal.TryAgain) → IsFirstToFail (Rule s r now) q) }
-        ensures same { (s : State) → K.means self.old.keeper s → K.means self.new.keeper s }
-        ensures crash { (s : State) → K.means self.old.keeper s → K.is_honest self.new.keeper
-            → AddsStanding K.Keeper self.old.keeper self.new.keeper s }
-        ensures staged { KeepsStaged K.stages self.old.keeper self.new.keeper }
-        ensures rest { HoldsUnless K.Keeper self.old.keeper self.new.keeper (IsGivenUp result) }
+        ensures looks { Looks K.Keeper self.old.keeper self.new.keeper (IsGivenUp result) }
     {
         let Ok(allowance) = self.allowance_of(link, now) else {
             return Err(Refusal::TryAgain);

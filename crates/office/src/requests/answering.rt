@@ -24,7 +24,7 @@ pub(crate) fn asks_head(message: &Announced<'_>) -> bool
 }
 
 impl<K: Keeper> Office<K> {
-    ghost use Rattle.std.specs.Prelude.{◌≡◌, ◌≢◌, ◌⊎◌, ◌≤◌, ℕ, List, [], length, Err, IfErr, IfOk, IsFalse, IsTrue, OnErr, OnOk};
+    ghost use Rattle.std.specs.Prelude.{◌≡◌, ◌≢◌, ◌⊎◌, [], length, Err, IfErr, IsFalse, IsTrue, OnErr, OnOk};
     ghost use Rattle.sigtext.specs.Bytes.{AreBytes};
     ghost use Rattle.sigtext.specs.Counts.{Rose};
     ghost use Rattle.sigtext.specs.Request.{Request};
@@ -34,12 +34,12 @@ impl<K: Keeper> Office<K> {
     ghost use Rattle.office.specs.Admitted.{IsAdmitted};
     ghost use Rattle.office.specs.Alike.{AreAlike};
     ghost use Rattle.office.specs.Answering.{is_head};
-    ghost use Rattle.office.specs.Crashes.{AddsAsked, AddsStanding, Endures, IsAsked, RefusedLasts};
+    ghost use Rattle.office.specs.Crashes.{AddsAsked, Endures, IsAsked};
     ghost use Rattle.office.specs.Foreseeing.{AreStaged, Foresees, IsForeseen, IsPutting, IsReadOf, IsUpload};
+    ghost use Rattle.office.specs.Frames.{Quiet, Replies};
     ghost use Rattle.office.specs.Offices.{IsTryAgain, IsAnswered, IsTheAnswer};
     ghost use Rattle.office.specs.Premise.{EndsUnstaged, HoldsUnless, IsFault, IsGivenUp, StaysUnstaged, WasKept};
     ghost use Rattle.office.specs.Readable.{IsReadable};
-    ghost use Rattle.office.specs.Replying.{IsReplied, IsNoRefusal};
 
     // Does the errand of a message whose body came and whose link is admitted.
     fn run_errand(
@@ -48,22 +48,11 @@ impl<K: Keeper> Office<K> {
         body: &Body,
         now: Moment,
     ) -> Result<Reply, Refusal>
-        ensures replies { (s : State) (r : Request) (f : IsForeseen s r prospect.entry)
-            → WasKept K.Keeper self.old.keeper self.new.keeper s
-            → IsAdmitted s r now f.parts f.key
-            → (IsPutting prospect.entry.errand → AreStaged K.Keeper self.old.keeper r.body body.now)
-            → IsReplied (Endures K.Keeper self.old.keeper self.new.keeper s) s r now result }
-        ensures same { (s : State) → K.means self.old.keeper s
-            → IfErr result (λ q. K.means self.new.keeper s) }
-        ensures plain { IfOk result IsNoRefusal }
-        ensures crash { (s : State) (r : Request) (f : IsForeseen s r prospect.entry)
-            → WasKept K.Keeper self.old.keeper self.new.keeper s
-            → IsAdmitted s r now f.parts f.key
-            → (IsPutting prospect.entry.errand → AreStaged K.Keeper self.old.keeper r.body body.now)
-            → RefusedLasts K.Keeper self.old.keeper self.new.keeper s r now result }
+        ensures replies { Replies K.Keeper self.old.keeper self.new.keeper now result
+            (λ s r. (f : IsForeseen s r prospect.entry) × IsAdmitted s r now f.parts f.key
+            × (IsPutting prospect.entry.errand → AreStaged K.Keeper self.old.keeper r.body body.now)) }
         ensures unstaged { IsPutting prospect.entry.errand ⊎ K.stages self.old.keeper []
             → EndsUnstaged K.Keeper self.old.keeper self.new.keeper }
-        ensures rest { HoldsUnless K.Keeper self.old.keeper self.new.keeper (IsGivenUp result) }
     {
         let Prospect { link, errand } = prospect;
         match errand {
@@ -77,12 +66,9 @@ impl<K: Keeper> Office<K> {
     // Refuses a message whose body came, once nothing of an upload is staged any more.
     fn refuse(&mut self, upload: bool, refusal: Refusal) -> Result<Reply, Refusal>
         ensures gives { (result ≢ Err Refusal.TryAgain) → result ≡ Err refusal }
-        ensures same { (s : State) → K.means self.old.keeper s → K.means self.new.keeper s }
-        ensures crash { (s : State) → K.means self.old.keeper s → K.is_honest self.new.keeper
-            → AddsStanding K.Keeper self.old.keeper self.new.keeper s }
         ensures unstaged { IsTrue upload ⊎ K.stages self.old.keeper []
             → EndsUnstaged K.Keeper self.old.keeper self.new.keeper }
-        ensures rest { HoldsUnless K.Keeper self.old.keeper self.new.keeper (IsGivenUp result) }
+        ensures quiet { Quiet K.Keeper self.old.keeper self.new.keeper (IsGivenUp result) }
     {
         if upload {
             self.let_go(Err(refusal))
@@ -93,22 +79,11 @@ impl<K: Keeper> Office<K> {
 
     // The reply, at its moment, to a message whose body came.
     fn finish(&mut self, prospect: Prospect<'_>, body: &Body, now: Moment) -> Result<Reply, Refusal>
-        ensures replies { (s : State) (r : Request)
-            → WasKept K.Keeper self.old.keeper self.new.keeper s
-            → IsForeseen s r prospect.entry
-            → (IsPutting prospect.entry.errand → AreStaged K.Keeper self.old.keeper r.body body.now)
-            → IsReplied (Endures K.Keeper self.old.keeper self.new.keeper s) s r now result }
-        ensures same { (s : State) → K.means self.old.keeper s
-            → IfErr result (λ q. K.means self.new.keeper s) }
-        ensures plain { IfOk result IsNoRefusal }
-        ensures crash { (s : State) (r : Request)
-            → WasKept K.Keeper self.old.keeper self.new.keeper s
-            → IsForeseen s r prospect.entry
-            → (IsPutting prospect.entry.errand → AreStaged K.Keeper self.old.keeper r.body body.now)
-            → RefusedLasts K.Keeper self.old.keeper self.new.keeper s r now result }
+        ensures replies { Replies K.Keeper self.old.keeper self.new.keeper now result
+            (λ s r. IsForeseen s r prospect.entry
+            × (IsPutting prospect.entry.errand → AreStaged K.Keeper self.old.keeper r.body body.now)) }
         ensures unstaged { IsPutting prospect.entry.errand ⊎ K.stages self.old.keeper []
             → EndsUnstaged K.Keeper self.old.keeper self.new.keeper }
-        ensures rest { HoldsUnless K.Keeper self.old.keeper self.new.keeper (IsGivenUp result) }
     {
         match self.check_moment(&prospect.link, now) {
             Ok(()) => self.run_errand(prospect, body, now),
@@ -127,25 +102,14 @@ impl<K: Keeper> Office<K> {
         body: &Body,
         now: Moment,
     ) -> Result<Reply, Refusal>
-        ensures replies { (s : State) (r : Request)
-            → WasKept K.Keeper self.old.keeper self.new.keeper s
-            → Foresees s r foreseen.entry
-            → (IsUpload foreseen.entry → AreStaged K.Keeper self.old.keeper r.body body.now)
-            → IsReplied (Endures K.Keeper self.old.keeper self.new.keeper s) s r now result }
+        ensures replies { Replies K.Keeper self.old.keeper self.new.keeper now result
+            (λ s r. Foresees s r foreseen.entry
+            × (IsUpload foreseen.entry → AreStaged K.Keeper self.old.keeper r.body body.now)) }
         ensures readable { IfErr result (λ q. q ≡ Refusal.TryAgain → (r : Request)
             → IsReadOf r foreseen.entry → IsReadable r) }
-        ensures same { (s : State) → K.means self.old.keeper s
-            → IfErr result (λ q. K.means self.new.keeper s) }
-        ensures plain { IfOk result IsNoRefusal }
-        ensures crash { (s : State) (r : Request)
-            → WasKept K.Keeper self.old.keeper self.new.keeper s
-            → Foresees s r foreseen.entry
-            → (IsUpload foreseen.entry → AreStaged K.Keeper self.old.keeper r.body body.now)
-            → RefusedLasts K.Keeper self.old.keeper self.new.keeper s r now result }
         ensures unstaged { IsUpload foreseen.entry ⊎ K.stages self.old.keeper []
             → EndsUnstaged K.Keeper self.old.keeper self.new.keeper }
         ensures given_up { foreseen.entry ≡ Err Refusal.TryAgain → IsGivenUp result }
-        ensures rest { HoldsUnless K.Keeper self.old.keeper self.new.keeper (IsGivenUp result) }
     {
         match foreseen {
             Ok(prospect) => self.finish(prospect, body, now),
@@ -192,11 +156,8 @@ impl<K: Keeper> Office<K> {
     // Stages a whole body in pieces.
     fn stage_whole(&mut self, body: &[u8]) -> Result<(), KeepFault>
         ensures staged { OnOk result (K.stages self.new.keeper body.now) }
-        ensures same { (s : State) → K.means self.old.keeper s → K.means self.new.keeper s }
-        ensures crash { (s : State) → K.means self.old.keeper s → K.is_honest self.new.keeper
-            → AddsStanding K.Keeper self.old.keeper self.new.keeper s }
         ensures fault { OnErr result (Rose (K.faults self.old.keeper) (K.faults self.new.keeper)) }
-        ensures rest { HoldsUnless K.Keeper self.old.keeper self.new.keeper (IsFault result) }
+        ensures quiet { Quiet K.Keeper self.old.keeper self.new.keeper (IsFault result) }
     {
         self.keeper.stage_begin()?;
         let mut rest = body;
@@ -215,11 +176,8 @@ impl<K: Keeper> Office<K> {
         ensures passed { IsFalse is_upload → KeepsStaged K.stages self.old.keeper self.new.keeper }
         ensures asked { OnErr result (IsTrue is_upload) }
         ensures octets { AreBytes body.now }
-        ensures same { (s : State) → K.means self.old.keeper s → K.means self.new.keeper s }
-        ensures crash { (s : State) → K.means self.old.keeper s → K.is_honest self.new.keeper
-            → AddsStanding K.Keeper self.old.keeper self.new.keeper s }
         ensures fault { OnErr result (Rose (K.faults self.old.keeper) (K.faults self.new.keeper)) }
-        ensures rest { HoldsUnless K.Keeper self.old.keeper self.new.keeper (IsFault result) }
+        ensures quiet { Quiet K.Keeper self.old.keeper self.new.keeper (IsFault result) }
     {
         if !is_upload {
             return Ok(());

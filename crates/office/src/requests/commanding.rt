@@ -44,7 +44,6 @@ impl<K: Keeper> Office<K> {
     ghost use Rattle.std.specs.Prelude.{◌≡◌, ◌≢◌, ◌↔◌, ◌⊎◌, ℕ, Err, IfErr, IfOk, IsErrAnd, IsSome, IsTrue, OnErr, OnOk, option_map};
     ghost use Rattle.std.specs.FinMap.{get};
     ghost use Rattle.sigtext.specs.Counts.{Rose};
-    ghost use Rattle.sigtext.specs.Request.{Request};
     ghost use Rattle.boxes.specs.Changes.{command_of, IsObeyed};
     ghost use Rattle.boxes.specs.Commands.{HasForm};
     ghost use Rattle.boxes.specs.Clerks.{clerks};
@@ -59,10 +58,10 @@ impl<K: Keeper> Office<K> {
     ghost use Rattle.links.specs.WellFormed.{LinkValues};
     ghost use Rattle.links.specs.CommandLines.{HasListedRule};
     ghost use Rattle.office.specs.Admitted.{ReachesBoxes};
-    ghost use Rattle.office.specs.Crashes.{Endures, IsToldBy, RefusedLasts, UndoneLasts};
+    ghost use Rattle.office.specs.Crashes.{Endures, IsToldBy, UndoneLasts};
     ghost use Rattle.office.specs.DeskLines.{IsKeepers, IsObeyedBy};
-    ghost use Rattle.office.specs.Premise.{HoldsUnless, IsGivenUp, IsLeft, StaysUnstaged, WasKept};
-    ghost use Rattle.office.specs.Replying.{IsReplied, IsNoRefusal};
+    ghost use Rattle.office.specs.Frames.{Replies};
+    ghost use Rattle.office.specs.Premise.{HoldsUnless, IsLeft, StaysUnstaged, WasKept};
     ghost use Rattle.office.specs.Rules.{IsPost};
 
     // Asks the keeper whether a box with this name exists.
@@ -237,19 +236,9 @@ impl<K: Keeper> Office<K> {
 
     // Does or refuses the command of a message whose link is admitted and whose form is right.
     pub(crate) fn post(&mut self, link: &LinkParts<'_>) -> Result<Reply, Refusal>
-        ensures replies { (s : State) (r : Request) (p : LinkValues) (now : ℕ)
-            → WasKept K.Keeper self.old.keeper self.new.keeper s
-            → IsLinkOf link.now r p → IsPost r → ReachesBoxes s r now p
-            → IsReplied (Endures K.Keeper self.old.keeper self.new.keeper s) s r now result }
-        ensures same { (s : State) → K.means self.old.keeper s
-            → OnErr result (K.means self.new.keeper s) }
-        ensures plain { IfOk result IsNoRefusal }
-        ensures crash { (s : State) (r : Request) (p : LinkValues) (now : ℕ)
-            → WasKept K.Keeper self.old.keeper self.new.keeper s
-            → IsLinkOf link.now r p → IsPost r → ReachesBoxes s r now p
-            → RefusedLasts K.Keeper self.old.keeper self.new.keeper s r now result }
+        ensures replies { (now : ℕ) → Replies K.Keeper self.old.keeper self.new.keeper now result
+            (λ s r. (p : LinkValues) × IsLinkOf link.now r p × IsPost r × ReachesBoxes s r now p) }
         ensures unstaged { StaysUnstaged K.Keeper self.old.keeper self.new.keeper }
-        ensures rest { HoldsUnless K.Keeper self.old.keeper self.new.keeper (IsGivenUp result) }
     {
         let Ok(path) = decoded_path(self.alloc, link) else {
             return Err(Refusal::TryAgain);

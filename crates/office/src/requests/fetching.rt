@@ -16,9 +16,10 @@ impl<K: Keeper> Office<K> {
     ghost use Rattle.links.specs.LinkReadings.{IsLinkOf};
     ghost use Rattle.links.specs.WellFormed.{LinkValues};
     ghost use Rattle.office.specs.Admitted.{ReachesBoxes};
-    ghost use Rattle.office.specs.Crashes.{AddsStanding, Endures};
+    ghost use Rattle.office.specs.Crashes.{Endures};
+    ghost use Rattle.office.specs.Frames.{Looks};
     ghost use Rattle.office.specs.Places.{place_at};
-    ghost use Rattle.office.specs.Premise.{HoldsUnless, IsGivenUp, WasKept};
+    ghost use Rattle.office.specs.Premise.{IsGivenUp, WasKept};
     ghost use Rattle.office.specs.Replying.{IsReplied, IsNoRefusal};
     ghost use Rattle.office.specs.Rules.{IsFetch};
 
@@ -40,12 +41,8 @@ impl<K: Keeper> Office<K> {
             → WasKept K.Keeper self.old.keeper self.new.keeper s
             → IsLinkOf link.now r p → IsFetch r → ReachesBoxes s r now p
             → IsReplied (Endures K.Keeper self.old.keeper self.new.keeper s) s r now result }
-        ensures same { (s : State) → K.means self.old.keeper s → K.means self.new.keeper s }
         ensures plain { IfOk result IsNoRefusal }
-        ensures crash { (s : State) → K.means self.old.keeper s → K.is_honest self.new.keeper
-            → AddsStanding K.Keeper self.old.keeper self.new.keeper s }
-        ensures staged { KeepsStaged K.stages self.old.keeper self.new.keeper }
-        ensures rest { HoldsUnless K.Keeper self.old.keeper self.new.keeper (IsGivenUp result) }
+        ensures looks { Looks K.Keeper self.old.keeper self.new.keeper (IsGivenUp result) }
     {
         let Ok(path) = decoded_path(self.alloc, link) else {
             return Err(Refusal::TryAgain);

@@ -71,18 +71,17 @@ pub(crate) fn is_upload(foreseen: &Result<Prospect<'_>, Refusal>) -> bool
 }
 
 impl<K: Keeper> Office<K> {
-    ghost use Rattle.std.specs.Prelude.{◌≡◌, ◌≢◌, ℕ, List, length, Err};
+    ghost use Rattle.std.specs.Prelude.{◌≡◌, ℕ, List, length, Err};
     ghost use Rattle.sigtext.specs.Request.{Request};
     ghost use Rattle.boxes.specs.State.{Key, State};
-    ghost use Rattle.boxes.specs.Keeping.{KeepsStaged};
     ghost use Rattle.links.specs.LinkReadings.{IsLinkOf};
     ghost use Rattle.links.specs.Methods.{method_text};
     ghost use Rattle.links.specs.WellFormed.{LinkValues};
     ghost use Rattle.office.specs.Admitted.{IsAdmitted, ReachesBoxes};
     ghost use Rattle.office.specs.Announcing.{request_with};
-    ghost use Rattle.office.specs.Crashes.{AddsStanding};
     ghost use Rattle.office.specs.Foreseeing.{ComesTo, Foresees, IsReadOf, IsSigned};
-    ghost use Rattle.office.specs.Premise.{HoldsUnless, IsGivenUp, WasKept};
+    ghost use Rattle.office.specs.Frames.{Looks};
+    ghost use Rattle.office.specs.Premise.{IsGivenUp, WasKept};
     ghost use Rattle.office.specs.Rules.{IsPut};
 
     // What an upload that obeys the rules up to 26 asks for: its box, if rules 27 to 29 hold. Otherwise the
@@ -94,11 +93,7 @@ impl<K: Keeper> Office<K> {
             → IsLinkOf link.now r p → IsPut r
             → ((now : ℕ) → IsAdmitted s r now p k → ReachesBoxes s r now p)
             → ComesTo s r p k result }
-        ensures same { (s : State) → K.means self.old.keeper s → K.means self.new.keeper s }
-        ensures crash { (s : State) → K.means self.old.keeper s → K.is_honest self.new.keeper
-            → AddsStanding K.Keeper self.old.keeper self.new.keeper s }
-        ensures staged { KeepsStaged K.stages self.old.keeper self.new.keeper }
-        ensures rest { HoldsUnless K.Keeper self.old.keeper self.new.keeper (IsGivenUp result) }
+        ensures looks { Looks K.Keeper self.old.keeper self.new.keeper (IsGivenUp result) }
     {
         let Ok(path) = decoded_path(self.alloc, link) else {
             return Err(Refusal::TryAgain);
@@ -129,11 +124,7 @@ impl<K: Keeper> Office<K> {
             → IsLinkOf link.now (request_with message.now body) p
             → IsSigned s (request_with message.now body) p k → k.role ≡ role
             → ComesTo s (request_with message.now body) p k result }
-        ensures same { (s : State) → K.means self.old.keeper s → K.means self.new.keeper s }
-        ensures crash { (s : State) → K.means self.old.keeper s → K.is_honest self.new.keeper
-            → AddsStanding K.Keeper self.old.keeper self.new.keeper s }
-        ensures staged { KeepsStaged K.stages self.old.keeper self.new.keeper }
-        ensures rest { HoldsUnless K.Keeper self.old.keeper self.new.keeper (IsGivenUp result) }
+        ensures looks { Looks K.Keeper self.old.keeper self.new.keeper (IsGivenUp result) }
     {
         match self.check_reach(link, method, role) {
             Ok(()) => {}
@@ -167,11 +158,7 @@ impl<K: Keeper> Office<K> {
         ensures readable { (body : List ℕ) (p : LinkValues)
             → IsLinkOf link.entry (request_with message.now body) p
             → IsReadOf (request_with message.now body) result }
-        ensures same { (s : State) → K.means self.old.keeper s → K.means self.new.keeper s }
-        ensures crash { (s : State) → K.means self.old.keeper s → K.is_honest self.new.keeper
-            → AddsStanding K.Keeper self.old.keeper self.new.keeper s }
-        ensures staged { KeepsStaged K.stages self.old.keeper self.new.keeper }
-        ensures rest { HoldsUnless K.Keeper self.old.keeper self.new.keeper (IsGivenUp result) }
+        ensures looks { Looks K.Keeper self.old.keeper self.new.keeper (IsGivenUp result) }
     {
         let role = match self.identify(&link) {
             Ok(role) => role,
@@ -194,11 +181,7 @@ impl<K: Keeper> Office<K> {
             → length body ≡ message.now.length
             → Foresees s (request_with message.now body) result }
         ensures readable { (body : List ℕ) → IsReadOf (request_with message.now body) result }
-        ensures same { (s : State) → K.means self.old.keeper s → K.means self.new.keeper s }
-        ensures crash { (s : State) → K.means self.old.keeper s → K.is_honest self.new.keeper
-            → AddsStanding K.Keeper self.old.keeper self.new.keeper s }
-        ensures staged { KeepsStaged K.stages self.old.keeper self.new.keeper }
-        ensures rest { HoldsUnless K.Keeper self.old.keeper self.new.keeper (IsGivenUp result) }
+        ensures looks { Looks K.Keeper self.old.keeper self.new.keeper (IsGivenUp result) }
     {
         let Some(method) = Method::read(message.method) else {
             return Err(Refusal::Method);

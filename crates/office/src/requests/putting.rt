@@ -52,9 +52,8 @@ fn may_stand(receipt: &Option<ReceiptRow>, body: &Body) -> bool
 }
 
 impl<K: Keeper> Office<K> {
-    ghost use Rattle.std.specs.Prelude.{◌≡◌, ◌≢◌, ◌↔◌, ℕ, ◌+◌, List, [], length, Err, IsTrue, IfErr, IfOk, OnErr, OnOk, option_map};
+    ghost use Rattle.std.specs.Prelude.{◌≡◌, ◌≢◌, ◌↔◌, ℕ, ◌+◌, List, length, Err, IsTrue, IfErr, IfOk, OnErr, OnOk, option_map};
     ghost use Rattle.std.specs.FinMap.{get};
-    ghost use Rattle.sigtext.specs.Request.{Request};
     ghost use Rattle.boxes.specs.Changes.{IsFileSet};
     ghost use Rattle.boxes.specs.Rows.{IsOfficeOf, settings_of};
     ghost use Rattle.boxes.specs.Rules.{Stands, Upload};
@@ -65,11 +64,12 @@ impl<K: Keeper> Office<K> {
     ghost use Rattle.links.specs.LinkReadings.{IsLinkOf};
     ghost use Rattle.links.specs.WellFormed.{LinkValues};
     ghost use Rattle.office.specs.Admitted.{ReachesBoxes};
-    ghost use Rattle.office.specs.Crashes.{AddsStanding, Endures, RefusedLasts};
+    ghost use Rattle.office.specs.Crashes.{Endures};
     ghost use Rattle.office.specs.Foreseeing.{AreStaged};
+    ghost use Rattle.office.specs.Frames.{Quiet, Replies};
     ghost use Rattle.office.specs.Places.{place_at};
     ghost use Rattle.office.specs.Premise.{EndsUnstaged, HoldsUnless, IsGivenUp, IsLeft, WasKept};
-    ghost use Rattle.office.specs.Replying.{IsReplied, IsNoRefusal, IsReceiptFor};
+    ghost use Rattle.office.specs.Replying.{IsReceiptFor};
     ghost use Rattle.office.specs.Rules.{IsPut, place_of};
 
     // Asks the keeper whether the staged bytes are already stored at the place, which has this receipt.
@@ -194,11 +194,8 @@ impl<K: Keeper> Office<K> {
     // Returns this reply once nothing is staged any more, or refusal 40 if the keeper counted a fault.
     pub(crate) fn let_go(&mut self, reply: Result<Reply, Refusal>) -> Result<Reply, Refusal>
         ensures gives { (result ≢ Err Refusal.TryAgain) → result ≡ reply }
-        ensures same { (s : State) → K.means self.old.keeper s → K.means self.new.keeper s }
-        ensures crash { (s : State) → K.means self.old.keeper s → K.is_honest self.new.keeper
-            → AddsStanding K.Keeper self.old.keeper self.new.keeper s }
         ensures unstaged { EndsUnstaged K.Keeper self.old.keeper self.new.keeper }
-        ensures rest { HoldsUnless K.Keeper self.old.keeper self.new.keeper (IsGivenUp result) }
+        ensures quiet { Quiet K.Keeper self.old.keeper self.new.keeper (IsGivenUp result) }
     {
         match self.keeper.stage_drop() {
             Ok(()) => reply,
@@ -215,23 +212,11 @@ impl<K: Keeper> Office<K> {
         body: &Body,
         now: Moment,
     ) -> Result<Reply, Refusal>
-        ensures replies { (s : State) (r : Request) (p : LinkValues)
-            → WasKept K.Keeper self.old.keeper self.new.keeper s
-            → IsLinkOf link.now r p → IsPut r → ReachesBoxes s r now p → path.now ≡ p.path
-            → option_map settings_of in_box ≡ get s.boxes (place_of p.path).box
-            → AreStaged K.Keeper self.old.keeper r.body body.now
-            → IsReplied (Endures K.Keeper self.old.keeper self.new.keeper s) s r now result }
-        ensures same { (s : State) → K.means self.old.keeper s
-            → OnErr result (K.means self.new.keeper s) }
-        ensures plain { IfOk result IsNoRefusal }
-        ensures crash { (s : State) (r : Request) (p : LinkValues)
-            → WasKept K.Keeper self.old.keeper self.new.keeper s
-            → IsLinkOf link.now r p → IsPut r → ReachesBoxes s r now p → path.now ≡ p.path
-            → option_map settings_of in_box ≡ get s.boxes (place_of p.path).box
-            → AreStaged K.Keeper self.old.keeper r.body body.now
-            → RefusedLasts K.Keeper self.old.keeper self.new.keeper s r now result }
+        ensures replies { Replies K.Keeper self.old.keeper self.new.keeper now result (λ s r. (p : LinkValues)
+            × IsLinkOf link.now r p × IsPut r × ReachesBoxes s r now p × (path.now ≡ p.path)
+            × (option_map settings_of in_box ≡ get s.boxes (place_of p.path).box)
+            × AreStaged K.Keeper self.old.keeper r.body body.now) }
         ensures unstaged { EndsUnstaged K.Keeper self.old.keeper self.new.keeper }
-        ensures rest { HoldsUnless K.Keeper self.old.keeper self.new.keeper (IsGivenUp result) }
     {
         let place = read_place(path);
         let Ok(Standing { view, stand }) = self.look_up(place, in_box, body) else {

@@ -18,13 +18,12 @@ impl<K: Keeper> Office<K> {
     ghost use Rattle.sigtext.specs.Request.{Request};
     ghost use Rattle.sigtext.specs.Rules.{IsFirstToFail};
     ghost use Rattle.boxes.specs.State.{Key, State};
-    ghost use Rattle.boxes.specs.Keeping.{KeepsStaged};
     ghost use Rattle.links.specs.LinkReadings.{IsLinkOf};
     ghost use Rattle.links.specs.Methods.{method_text};
     ghost use Rattle.links.specs.WellFormed.{LinkValues};
     ghost use Rattle.office.specs.Admitted.{IsAdmitted};
-    ghost use Rattle.office.specs.Crashes.{AddsStanding};
-    ghost use Rattle.office.specs.Premise.{HoldsUnless, IsGivenUp, WasKept};
+    ghost use Rattle.office.specs.Frames.{Looks};
+    ghost use Rattle.office.specs.Premise.{IsGivenUp, WasKept};
     ghost use Rattle.office.specs.Rules.{MaySend, Rule};
 
     // Checks whether the key of an admitted link, with this role, may send this. A clerk's key may send
@@ -43,11 +42,7 @@ impl<K: Keeper> Office<K> {
             → IsAdmitted s r now p k → k.role ≡ role
             → MatchResult result (λ done. MaySend s r p)
             (λ q. (q ≢ Refusal.TryAgain) → IsFirstToFail (Rule s r now) q) }
-        ensures same { (s : State) → K.means self.old.keeper s → K.means self.new.keeper s }
-        ensures crash { (s : State) → K.means self.old.keeper s → K.is_honest self.new.keeper
-            → AddsStanding K.Keeper self.old.keeper self.new.keeper s }
-        ensures staged { KeepsStaged K.stages self.old.keeper self.new.keeper }
-        ensures rest { HoldsUnless K.Keeper self.old.keeper self.new.keeper (IsGivenUp result) }
+        ensures looks { Looks K.Keeper self.old.keeper self.new.keeper (IsGivenUp result) }
     {
         match role {
             Role::Clerk => return Ok(()),

@@ -23,13 +23,13 @@ pub returns-clause-answers : goal.returns-clause-answers
 returns-clause-answers g c s kept =
     let body = c.args.message.now.body.now in
     let honest-2 = c.answer_whole.ensures.rest.honest kept.is_honest in
-    let honest-1 = c.stage_upload.ensures.rest.honest honest-2 in
-    let means-1 = c.foresee-foreseen.ensures.same s kept.means in
-    let means-2 = c.stage_upload.ensures.same s means-1 in
+    let honest-1 = c.stage_upload.ensures.quiet.rest.honest honest-2 in
+    let means-1 = c.foresee-foreseen.ensures.looks.quiet.same s kept.means in
+    let means-2 = c.stage_upload.ensures.quiet.same s means-1 in
     let foresees = subst (λ (r : Request). Foresees s r c.foresee-foreseen.result) c.announce-head.ensures.request
     (c.foresee-foreseen.ensures.foresees s body (record { means = kept.means; is_honest = honest-1; sound = kept.sound }) (sym c.announce-head.ensures.length)) in
     then_answered c.answer_whole.new.self.keeper s (request_in c.args.message.now) c.args.now c.answer_whole.result
-    (then_adds (c.foresee-foreseen.ensures.crash s kept.means honest-1) (c.stage_upload.ensures.crash s means-1 honest-2))
+    (then_adds (c.foresee-foreseen.ensures.looks.quiet.crash s kept.means honest-1) (c.stage_upload.ensures.quiet.crash s means-1 honest-2))
     (c.answer_whole.ensures.answers s (request_in c.args.message.now) (record { means = means-2; is_honest = kept.is_honest; sound = kept.sound }) foresees
     (c.asks_head-to_head.ensures ∙ ap is_head c.announce-head.ensures.request)
     (λ upload. record {
@@ -53,19 +53,19 @@ returns-clause-readable g c again =
 pub returns-clause-rest : goal.returns-clause-rest
 returns-clause-rest g c =
     then_holds
-    (then_holds c.foresee-foreseen.ensures.rest c.stage_upload.ensures.rest (λ not given. not (c.answer_whole.ensures.given_up given)) (λ not fault. no_fault c.stage_upload.result (search rules) fault))
+    (then_holds c.foresee-foreseen.ensures.looks.quiet.rest c.stage_upload.ensures.quiet.rest (λ not given. not (c.answer_whole.ensures.given_up given)) (λ not fault. no_fault c.stage_upload.result (search rules) fault))
     c.answer_whole.ensures.rest (λ not none. not none) (λ not again. not again)
 
 pub returns-clause-crash : goal.returns-clause-crash
 returns-clause-crash g c s kept again =
     let body = c.args.message.now.body.now in
     let honest-2 = c.answer_whole.ensures.rest.honest kept.is_honest in
-    let honest-1 = c.stage_upload.ensures.rest.honest honest-2 in
-    let means-1 = c.foresee-foreseen.ensures.same s kept.means in
-    let means-2 = c.stage_upload.ensures.same s means-1 in
+    let honest-1 = c.stage_upload.ensures.quiet.rest.honest honest-2 in
+    let means-1 = c.foresee-foreseen.ensures.looks.quiet.same s kept.means in
+    let means-2 = c.stage_upload.ensures.quiet.same s means-1 in
     let foresees = subst (λ (r : Request). Foresees s r c.foresee-foreseen.result) c.announce-head.ensures.request
     (c.foresee-foreseen.ensures.foresees s body (record { means = kept.means; is_honest = honest-1; sound = kept.sound }) (sym c.announce-head.ensures.length)) in
-    then_asked (then_adds (c.foresee-foreseen.ensures.crash s kept.means honest-1) (c.stage_upload.ensures.crash s means-1 honest-2))
+    then_asked (then_adds (c.foresee-foreseen.ensures.looks.quiet.crash s kept.means honest-1) (c.stage_upload.ensures.quiet.crash s means-1 honest-2))
     (c.answer_whole.ensures.crash s (request_in c.args.message.now) (record { means = means-2; is_honest = kept.is_honest; sound = kept.sound }) foresees
     (λ upload. record {
       staged = of_ok c.stage_upload.result (search rules) (c.stage_upload.ensures.staged (c.is_upload-upload.ensures.1 upload));
@@ -76,27 +76,27 @@ returns-clause-crash g c s kept again =
     }) again)
 
 pub returns-then-is_err-clause-rest : goal.returns-then-is_err-clause-rest
-returns-then-is_err-clause-rest g c = then_holds c.foresee-foreseen.ensures.rest c.stage_upload.ensures.rest (λ not _. not c.refused.ensures.reply) (λ not _. not c.refused.ensures.reply)
+returns-then-is_err-clause-rest g c = then_holds c.foresee-foreseen.ensures.looks.quiet.rest c.stage_upload.ensures.quiet.rest (λ not _. not c.refused.ensures.reply) (λ not _. not c.refused.ensures.reply)
 
 pub returns-then-is_err-clause-unstaged : goal.returns-then-is_err-clause-unstaged
-returns-then-is_err-clause-unstaged g c = λ none. inr (rose_later _ _ _ c.foresee-foreseen.ensures.rest.never_less (of_err c.stage_upload.result c.if-is_err.ensures.value c.stage_upload.ensures.fault))
+returns-then-is_err-clause-unstaged g c = λ none. inr (rose_later _ _ _ c.foresee-foreseen.ensures.looks.quiet.rest.never_less (of_err c.stage_upload.result c.if-is_err.ensures.value c.stage_upload.ensures.fault))
 
 pub returns-clause-again : goal.returns-clause-again
-returns-clause-again g c = λ again s means. c.answer_whole.ensures.again again s (c.stage_upload.ensures.same s (c.foresee-foreseen.ensures.same s means))
+returns-clause-again g c = λ again s means. c.answer_whole.ensures.again again s (c.stage_upload.ensures.quiet.same s (c.foresee-foreseen.ensures.looks.quiet.same s means))
 
 pub returns-clause-unstaged : goal.returns-clause-unstaged
-returns-clause-unstaged g c = unstaged_served g.K.Keeper c.args.self.now.keeper c.stage_upload.new.self.keeper c.answer_whole.new.self.keeper c.is_upload-upload.result (let first = c.foresee-foreseen.ensures.rest.never_less in let second = c.stage_upload.ensures.rest.never_less in omega (arith, first, second)) (λ no bytes at. c.stage_upload.ensures.passed no bytes (c.foresee-foreseen.ensures.staged bytes at)) c.is_upload-upload.ensures.0 c.answer_whole.ensures.unstaged
+returns-clause-unstaged g c = unstaged_served g.K.Keeper c.args.self.now.keeper c.stage_upload.new.self.keeper c.answer_whole.new.self.keeper c.is_upload-upload.result (let first = c.foresee-foreseen.ensures.looks.quiet.rest.never_less in let second = c.stage_upload.ensures.quiet.rest.never_less in omega (arith, first, second)) (λ no bytes at. c.stage_upload.ensures.passed no bytes (c.foresee-foreseen.ensures.looks.staged bytes at)) c.is_upload-upload.ensures.0 c.answer_whole.ensures.unstaged
 
 pub returns-then-is_err-clause-answers : goal.returns-then-is_err-clause-answers
 returns-then-is_err-clause-answers g c s kept other = absurd (other c.refused.ensures.reply)
 
 pub returns-then-is_err-clause-again : goal.returns-then-is_err-clause-again
-returns-then-is_err-clause-again g c again s means = c.stage_upload.ensures.same s (c.foresee-foreseen.ensures.same s means)
+returns-then-is_err-clause-again g c again s means = c.stage_upload.ensures.quiet.same s (c.foresee-foreseen.ensures.looks.quiet.same s means)
 
 pub returns-then-is_err-clause-crash : goal.returns-then-is_err-clause-crash
 returns-then-is_err-clause-crash g c s kept again =
-    let means = c.foresee-foreseen.ensures.same s kept.means in
-    adds_less (then_adds (c.foresee-foreseen.ensures.crash s kept.means (c.stage_upload.ensures.rest.honest kept.is_honest)) (c.stage_upload.ensures.crash s means kept.is_honest))
+    let means = c.foresee-foreseen.ensures.looks.quiet.same s kept.means in
+    adds_less (then_adds (c.foresee-foreseen.ensures.looks.quiet.crash s kept.means (c.stage_upload.ensures.quiet.rest.honest kept.is_honest)) (c.stage_upload.ensures.quiet.crash s means kept.is_honest))
 
 pub returns-then-is_err-clause-alike : goal.returns-then-is_err-clause-alike
 returns-then-is_err-clause-alike g c = grind arith

@@ -7,9 +7,7 @@ use Rattle.links.proofs.Texts.{clash}
 use Rattle.office.specs.Rules.{place_of}
 use Rattle.office.proofs.Deciding.{box_barred, box_used, no_clerk_posts, role_not_allowed}
 use Rattle.office.proofs.Forming.{is_post, link_no_clerk, uses_boxes}
-use Rattle.office.proofs.Holding.{holds_still}
-use Rattle.office.proofs.Endurance.{asked_standing, still}
-use Rattle.office.proofs.Unstaged.{asked_holds, failed_holds}
+use Rattle.office.proofs.KeeperCalls.{looks_answered, looks_failed, looks_still}
 use Rattle.office.proofs.office.Office.check_reach.Goals as goal
 
 pub returns-then-is_post-clause-reaches : goal.returns-then-is_post-clause-reaches
@@ -35,62 +33,26 @@ returns-in-Ok-false-clause-reaches g c s r now p k kept is by admitted role othe
     (λ may. clash c.in-Ok-false.field-0 c.in-Ok-false.field-0-test (asked.1
     (subst (λ (id : List ℕ). MayUse s id c.read_place-place.result.in_box.now) (sym (c.key_id.ensures r p is)) (subst (λ (box : List ℕ). MayUse s p.key_id box) (sym same) may)))))
 
-pub returns-in-Clerk-clause-crash : goal.returns-in-Clerk-clause-crash
-returns-in-Clerk-clause-crash g c = λ s means honest. still
-
-pub returns-in-Clerk-clause-rest : goal.returns-in-Clerk-clause-rest
-returns-in-Clerk-clause-rest g c = holds_still
-
-pub returns-then-is_post-clause-crash : goal.returns-then-is_post-clause-crash
-returns-then-is_post-clause-crash g c = λ s means honest. still
-
-pub returns-then-is_post-clause-rest : goal.returns-then-is_post-clause-rest
-returns-then-is_post-clause-rest g c = holds_still
-
-pub returns-in_default-clause-crash : goal.returns-in_default-clause-crash
-returns-in_default-clause-crash g c = λ s means honest. still
-
-pub returns-in_default-clause-rest : goal.returns-in_default-clause-rest
-returns-in_default-clause-rest g c = holds_still
-
-pub returns-in-Ok-true-clause-crash : goal.returns-in-Ok-true-clause-crash
-returns-in-Ok-true-clause-crash g c = λ s means honest. asked_standing c.may_use.ensures.rest means honest
-
-pub returns-in-Ok-true-clause-rest : goal.returns-in-Ok-true-clause-rest
-returns-in-Ok-true-clause-rest g c = asked_holds g.K.Keeper _ _ _ c.in-Ok-true.ensures.rest
-
-pub returns-in-Ok-false-clause-crash : goal.returns-in-Ok-false-clause-crash
-returns-in-Ok-false-clause-crash g c = λ s means honest. asked_standing c.may_use.ensures.rest means honest
-
-pub returns-in-Ok-false-clause-rest : goal.returns-in-Ok-false-clause-rest
-returns-in-Ok-false-clause-rest g c = asked_holds g.K.Keeper _ _ _ c.in-Ok-false.ensures.rest
-
-pub returns-clause-crash : goal.returns-clause-crash
-returns-clause-crash g c = λ s means honest. asked_standing c.may_use.ensures.rest means honest
-
-pub returns-clause-rest : goal.returns-clause-rest
-returns-clause-rest g c = failed_holds g.K.Keeper _ _ _ c.in-Err.ensures.rest refl
-
 pub returns-clause-reaches : goal.returns-clause-reaches
 returns-clause-reaches g c = grind arith
 
-pub returns-clause-same : goal.returns-clause-same
-returns-clause-same g c = grind arith
-
-pub returns-clause-staged : goal.returns-clause-staged
-returns-clause-staged g c = grind arith
-
-pub returns-in-Ok-false-clause-same : goal.returns-in-Ok-false-clause-same
-returns-in-Ok-false-clause-same g c = grind arith
-
-pub returns-in-Ok-false-clause-staged : goal.returns-in-Ok-false-clause-staged
-returns-in-Ok-false-clause-staged g c = grind arith
-
-pub returns-in-Ok-true-clause-same : goal.returns-in-Ok-true-clause-same
-returns-in-Ok-true-clause-same g c = grind arith
-
-pub returns-in-Ok-true-clause-staged : goal.returns-in-Ok-true-clause-staged
-returns-in-Ok-true-clause-staged g c = grind arith
-
 pub returns-in_default-clause-reaches : goal.returns-in_default-clause-reaches
 returns-in_default-clause-reaches g c = grind arith
+
+pub returns-in-Clerk-clause-looks : goal.returns-in-Clerk-clause-looks
+returns-in-Clerk-clause-looks g c = looks_still
+
+pub returns-then-is_post-clause-looks : goal.returns-then-is_post-clause-looks
+returns-then-is_post-clause-looks g c = looks_still
+
+pub returns-in_default-clause-looks : goal.returns-in_default-clause-looks
+returns-in_default-clause-looks g c = looks_still
+
+pub returns-in-Ok-true-clause-looks : goal.returns-in-Ok-true-clause-looks
+returns-in-Ok-true-clause-looks g c = looks_answered c.in-Ok-true.ensures.rest c.may_use.ensures.staged
+
+pub returns-in-Ok-false-clause-looks : goal.returns-in-Ok-false-clause-looks
+returns-in-Ok-false-clause-looks g c = looks_answered c.in-Ok-false.ensures.rest c.may_use.ensures.staged
+
+pub returns-clause-looks : goal.returns-clause-looks
+returns-clause-looks g c = looks_failed c.in-Err.ensures.rest c.may_use.ensures.staged refl

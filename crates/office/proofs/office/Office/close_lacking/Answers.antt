@@ -1,13 +1,7 @@
-use Rattle.office.proofs.Holding.{holds_less}
 use Rattle.std.proofs.Common.{inl, inr}
 use Rattle.office.proofs.Handlings.{closed_again}
+use Rattle.office.proofs.KeeperCalls.{quiet_less}
 use Rattle.office.proofs.office.Office.close_lacking.Goals as goal
-
-pub returns-in-Ok-clause-means : goal.returns-in-Ok-clause-means
-returns-in-Ok-clause-means g c = c.drop_staged.ensures.means
-
-pub returns-in-Ok-clause-crash : goal.returns-in-Ok-clause-crash
-returns-in-Ok-clause-crash g c = c.drop_staged.ensures.crash
 
 pub returns-in-Ok-clause-ends : goal.returns-in-Ok-clause-ends
 returns-in-Ok-clause-ends g c = c.drop_staged.ensures.ends
@@ -24,12 +18,6 @@ returns-in-Ok-clause-clean g c = c.close.ensures.clean
 pub returns-in-Ok-clause-end : goal.returns-in-Ok-clause-end
 returns-in-Ok-clause-end g c = c.close.ensures.end
 
-pub returns-in-Err-clause-means : goal.returns-in-Err-clause-means
-returns-in-Err-clause-means g c = c.drop_staged.ensures.means
-
-pub returns-in-Err-clause-crash : goal.returns-in-Err-clause-crash
-returns-in-Err-clause-crash g c = c.drop_staged.ensures.crash
-
 pub returns-in-Err-clause-ends : goal.returns-in-Err-clause-ends
 returns-in-Err-clause-ends g c = c.drop_staged.ensures.ends
 
@@ -45,14 +33,14 @@ returns-in-Err-clause-clean g c = c.close-in-Err.ensures.clean
 pub returns-in-Err-clause-end : goal.returns-in-Err-clause-end
 returns-in-Err-clause-end g c = c.close-in-Err.ensures.end
 
-pub returns-in-Ok-clause-rest : goal.returns-in-Ok-clause-rest
-returns-in-Ok-clause-rest g c = holds_less (λ is. absurd is) c.in-Ok.ensures.rest
-
 pub returns-in-Ok-clause-closed : goal.returns-in-Ok-clause-closed
-returns-in-Ok-clause-closed g c = inl (c.close.ensures.closed, c.in-Ok.ensures.rest)
-
-pub returns-in-Err-clause-rest : goal.returns-in-Err-clause-rest
-returns-in-Err-clause-rest g c = holds_less (λ _. closed_again g.K.Keeper _ _ _ _ c.close-in-Err.result c.close-in-Err.ensures.closed) c.in-Err.ensures.rest
+returns-in-Ok-clause-closed g c = inl (c.close.ensures.closed, c.in-Ok.ensures.quiet.rest)
 
 pub returns-in-Err-clause-closed : goal.returns-in-Err-clause-closed
 returns-in-Err-clause-closed g c = inr (c.close-in-Err.ensures.closed, c.in-Err.ensures.asked)
+
+pub returns-in-Ok-clause-quiet : goal.returns-in-Ok-clause-quiet
+returns-in-Ok-clause-quiet g c = quiet_less (λ is. absurd is) c.in-Ok.ensures.quiet
+
+pub returns-in-Err-clause-quiet : goal.returns-in-Err-clause-quiet
+returns-in-Err-clause-quiet g c = quiet_less (λ _. closed_again g.K.Keeper _ _ _ _ c.close-in-Err.result c.close-in-Err.ensures.closed) c.in-Err.ensures.quiet

@@ -2,10 +2,9 @@ use Rattle.std.proofs.Common.{◌∙◌, ap, refl, arith}
 use Rattle.office.specs.Crashes.{Endures, unchanged}
 use Rattle.office.specs.Places.{place_at}
 use Rattle.office.specs.Rules.{place_of}
-use Rattle.office.proofs.Endurance.{asked_standing, still}
+use Rattle.office.proofs.Endurance.{asked_standing}
 use Rattle.office.proofs.Replies.{fetched, not_fetched}
-use Rattle.office.proofs.Holding.{holds_still}
-use Rattle.office.proofs.Unstaged.{asked_holds, failed_holds}
+use Rattle.office.proofs.KeeperCalls.{looks_answered, looks_failed, looks_still}
 use Rattle.office.proofs.office.Office.fetch.Goals as goal
 
 pub returns-in-Ok-fetch-clause-replies : goal.returns-in-Ok-fetch-clause-replies
@@ -21,38 +20,8 @@ returns-clause-replies g c s r p now kept is is_fetch reached other =
     not_fetched (Endures g.K.Keeper c.args.self.now.keeper c.look_for.new.self.keeper s) s r now p reached (place_at c.read_place-place.result) c.in-Err.refusal is_fetch same
     (c.in-Err.ensures s c.read_place-place.result.in_box.now kept.sound (c.in-Ok-look_for.ensures.view s kept))
 
-pub returns-in_default-clause-crash : goal.returns-in_default-clause-crash
-returns-in_default-clause-crash g c = λ s means honest. still
-
-pub returns-in_default-clause-rest : goal.returns-in_default-clause-rest
-returns-in_default-clause-rest g c = holds_still
-
-pub returns-in_default-look_for-clause-crash : goal.returns-in_default-look_for-clause-crash
-returns-in_default-look_for-clause-crash g c = λ s means honest. asked_standing c.look_for.ensures.rest means honest
-
-pub returns-in_default-look_for-clause-rest : goal.returns-in_default-look_for-clause-rest
-returns-in_default-look_for-clause-rest g c = failed_holds g.K.Keeper _ _ _ c.in_default-look_for.ensures.rest refl
-
-pub returns-in-Ok-fetch-clause-crash : goal.returns-in-Ok-fetch-clause-crash
-returns-in-Ok-fetch-clause-crash g c = λ s means honest. asked_standing c.look_for.ensures.rest means honest
-
-pub returns-in-Ok-fetch-clause-rest : goal.returns-in-Ok-fetch-clause-rest
-returns-in-Ok-fetch-clause-rest g c = asked_holds g.K.Keeper _ _ _ c.in-Ok-look_for.ensures.rest
-
-pub returns-clause-crash : goal.returns-clause-crash
-returns-clause-crash g c = λ s means honest. asked_standing c.look_for.ensures.rest means honest
-
-pub returns-clause-rest : goal.returns-clause-rest
-returns-clause-rest g c = asked_holds g.K.Keeper _ _ _ c.in-Ok-look_for.ensures.rest
-
-pub returns-clause-staged : goal.returns-clause-staged
-returns-clause-staged g c = grind arith
-
 pub returns-in-Ok-fetch-clause-plain : goal.returns-in-Ok-fetch-clause-plain
 returns-in-Ok-fetch-clause-plain g c = grind arith
-
-pub returns-in-Ok-fetch-clause-staged : goal.returns-in-Ok-fetch-clause-staged
-returns-in-Ok-fetch-clause-staged g c = grind arith
 
 pub returns-in_default-clause-replies : goal.returns-in_default-clause-replies
 returns-in_default-clause-replies g c = grind arith
@@ -60,8 +29,14 @@ returns-in_default-clause-replies g c = grind arith
 pub returns-in_default-look_for-clause-replies : goal.returns-in_default-look_for-clause-replies
 returns-in_default-look_for-clause-replies g c = grind arith
 
-pub returns-in_default-look_for-clause-same : goal.returns-in_default-look_for-clause-same
-returns-in_default-look_for-clause-same g c = grind arith
+pub returns-in_default-clause-looks : goal.returns-in_default-clause-looks
+returns-in_default-clause-looks g c = looks_still
 
-pub returns-in_default-look_for-clause-staged : goal.returns-in_default-look_for-clause-staged
-returns-in_default-look_for-clause-staged g c = grind arith
+pub returns-in_default-look_for-clause-looks : goal.returns-in_default-look_for-clause-looks
+returns-in_default-look_for-clause-looks g c = looks_failed c.in_default-look_for.ensures.rest c.look_for.ensures.staged refl
+
+pub returns-in-Ok-fetch-clause-looks : goal.returns-in-Ok-fetch-clause-looks
+returns-in-Ok-fetch-clause-looks g c = looks_answered c.in-Ok-look_for.ensures.rest c.look_for.ensures.staged
+
+pub returns-clause-looks : goal.returns-clause-looks
+returns-clause-looks g c = looks_answered c.in-Ok-look_for.ensures.rest c.look_for.ensures.staged

@@ -4,8 +4,7 @@ use Rattle.links.proofs.LinkRules.{method_first}
 use Rattle.links.proofs.Texts.{clash}
 use Rattle.office.specs.Announcing.{request_with}
 use Rattle.office.proofs.Deciding.{head_first}
-use Rattle.office.proofs.Holding.{holds_still}
-use Rattle.office.proofs.Endurance.{still}
+use Rattle.office.proofs.KeeperCalls.{looks_still}
 use Rattle.office.proofs.office.Office.foresee.Goals as goal
 
 pub returns-in_default-clause-foresees : goal.returns-in_default-clause-foresees
@@ -31,29 +30,14 @@ returns-in-Err-clause-foresees g c s body kept long other now =
 pub returns-in-Err-clause-readable : goal.returns-in-Err-clause-readable
 returns-in-Err-clause-readable g c body again = c.in-Err.ensures.readable again body
 
-pub returns-in_default-clause-crash : goal.returns-in_default-clause-crash
-returns-in_default-clause-crash g c = λ s means honest. still
-
-pub returns-in_default-clause-rest : goal.returns-in_default-clause-rest
-returns-in_default-clause-rest g c = holds_still
-
-pub returns-in-Err-clause-crash : goal.returns-in-Err-clause-crash
-returns-in-Err-clause-crash g c = λ s means honest. still
-
-pub returns-in-Err-clause-rest : goal.returns-in-Err-clause-rest
-returns-in-Err-clause-rest g c = holds_still
-
-pub returns-in-Ok-clause-same : goal.returns-in-Ok-clause-same
-returns-in-Ok-clause-same g c = c.foresee_link.ensures.same
-
-pub returns-in-Ok-clause-crash : goal.returns-in-Ok-clause-crash
-returns-in-Ok-clause-crash g c = c.foresee_link.ensures.crash
-
-pub returns-in-Ok-clause-staged : goal.returns-in-Ok-clause-staged
-returns-in-Ok-clause-staged g c = c.foresee_link.ensures.staged
-
-pub returns-in-Ok-clause-rest : goal.returns-in-Ok-clause-rest
-returns-in-Ok-clause-rest g c = c.foresee_link.ensures.rest
-
 pub returns-in_default-clause-readable : goal.returns-in_default-clause-readable
 returns-in_default-clause-readable g c = grind arith
+
+pub returns-in_default-clause-looks : goal.returns-in_default-clause-looks
+returns-in_default-clause-looks g c = looks_still
+
+pub returns-in-Err-clause-looks : goal.returns-in-Err-clause-looks
+returns-in-Err-clause-looks g c = looks_still
+
+pub returns-in-Ok-clause-looks : goal.returns-in-Ok-clause-looks
+returns-in-Ok-clause-looks g c = c.foresee_link.ensures.looks

@@ -1,6 +1,5 @@
 use Rattle.std.proofs.Common.{arith}
-use Rattle.office.proofs.Holding.{holds_still}
-use Rattle.office.proofs.Endurance.{still}
+use Rattle.office.proofs.KeeperCalls.{quiet_still}
 use Rattle.office.proofs.office.Office.receive.Goals as goal
 
 pub returns-then-is_upload-clause-whole : goal.returns-then-is_upload-clause-whole
@@ -23,17 +22,8 @@ returns-then-is_upload-clause-fault g c = c.stage_body.ensures.fault
 pub returns-then-is_upload-clause-clean : goal.returns-then-is_upload-clause-clean
 returns-then-is_upload-clause-clean g c = c.stage_body.ensures.clean
 
-pub returns-then-is_upload-clause-means : goal.returns-then-is_upload-clause-means
-returns-then-is_upload-clause-means g c = c.stage_body.ensures.means
-
-pub returns-then-is_upload-clause-crash : goal.returns-then-is_upload-clause-crash
-returns-then-is_upload-clause-crash g c = c.stage_body.ensures.crash
-
 pub returns-then-is_upload-clause-counts : goal.returns-then-is_upload-clause-counts
 returns-then-is_upload-clause-counts g c = c.stage_body.ensures.counts
-
-pub returns-then-is_upload-clause-rest : goal.returns-then-is_upload-clause-rest
-returns-then-is_upload-clause-rest g c = c.stage_body.ensures.rest
 
 pub returns-then-is_upload-clause-staged : goal.returns-then-is_upload-clause-staged
 returns-then-is_upload-clause-staged g c = λ _. c.stage_body.ensures.whole
@@ -61,15 +51,6 @@ returns-else-is_upload-clause-fault g c = c.pass_over.ensures.fault
 pub returns-else-is_upload-clause-clean : goal.returns-else-is_upload-clause-clean
 returns-else-is_upload-clause-clean g c = c.pass_over.ensures.clean
 
-pub returns-else-is_upload-clause-means : goal.returns-else-is_upload-clause-means
-returns-else-is_upload-clause-means g c = λ s means. means
-
-pub returns-else-is_upload-clause-crash : goal.returns-else-is_upload-clause-crash
-returns-else-is_upload-clause-crash g c = λ s means honest. still
-
-pub returns-else-is_upload-clause-rest : goal.returns-else-is_upload-clause-rest
-returns-else-is_upload-clause-rest g c = holds_still
-
 pub returns-else-is_upload-clause-passed : goal.returns-else-is_upload-clause-passed
 returns-else-is_upload-clause-passed g c = λ _ bytes at. at
 
@@ -84,3 +65,9 @@ returns-else-is_upload-clause-staged g c = grind arith
 
 pub returns-then-is_upload-clause-passed : goal.returns-then-is_upload-clause-passed
 returns-then-is_upload-clause-passed g c = grind arith
+
+pub returns-then-is_upload-clause-quiet : goal.returns-then-is_upload-clause-quiet
+returns-then-is_upload-clause-quiet g c = c.stage_body.ensures.quiet
+
+pub returns-else-is_upload-clause-quiet : goal.returns-else-is_upload-clause-quiet
+returns-else-is_upload-clause-quiet g c = quiet_still

@@ -1,17 +1,18 @@
-use Rattle.std.proofs.Common.{Err, ap, inl, inr, subst, sym, arith}
+use Rattle.std.proofs.Common.{Err, ap, inl, inr, subst, sym, refl}
 use Rattle.sigtext.specs.declared.refusal.Refusal.TheVariants as rule
 use Rattle.office.specs.Foreseeing.{Foresees, IsReadOf, IsUpload}
-use Rattle.office.proofs.Endurance.{refused_same, still}
 use Rattle.office.proofs.Foreseen.{err_is, err_whatever, ok_no_err, readable_of}
+use Rattle.office.proofs.KeeperCalls.{quiet_still}
+use Rattle.office.proofs.Replied.{replies_for, replies_refused}
 use Rattle.office.proofs.office.Office.reply_to.Goals as goal
 
 pub returns-in-Ok-clause-replies : goal.returns-in-Ok-clause-replies
-returns-in-Ok-clause-replies g c s r kept f staged =
-    c.finish.ensures.replies s r kept (subst (Foresees s r) c.in-Ok.is f) (λ putting. staged (subst IsUpload (sym c.in-Ok.is) putting))
+returns-in-Ok-clause-replies g c =
+    replies_for (λ s r right. (subst (Foresees s r) c.in-Ok.is right.0, λ putting. right.1 (subst IsUpload (sym c.in-Ok.is) putting))) c.finish.ensures.replies
 
-pub returns-in-Ok-clause-crash : goal.returns-in-Ok-clause-crash
-returns-in-Ok-clause-crash g c s r kept f staged =
-    c.finish.ensures.crash s r kept (subst (Foresees s r) c.in-Ok.is f) (λ putting. staged (subst IsUpload (sym c.in-Ok.is) putting))
+pub returns-in-Err-clause-replies : goal.returns-in-Err-clause-replies
+returns-in-Err-clause-replies g c =
+    replies_refused c.in-Err.refusal (Err c.in-Err.refusal) quiet_still (λ _. refl) (λ s r kept right other. subst (Foresees s r) c.in-Err.is right.0 other c.args.now)
 
 pub returns-in-Ok-clause-readable : goal.returns-in-Ok-clause-readable
 returns-in-Ok-clause-readable g c =
@@ -20,12 +21,6 @@ returns-in-Ok-clause-readable g c =
 pub returns-in-Ok-clause-unstaged : goal.returns-in-Ok-clause-unstaged
 returns-in-Ok-clause-unstaged g c (inl upload) = c.finish.ensures.unstaged (inl (subst IsUpload c.in-Ok.is upload))
 returns-in-Ok-clause-unstaged g c (inr none) = c.finish.ensures.unstaged (inr none)
-
-pub returns-in-Err-clause-replies : goal.returns-in-Err-clause-replies
-returns-in-Err-clause-replies g c s r kept f staged other = subst (Foresees s r) c.in-Err.is f other c.args.now
-
-pub returns-in-Err-clause-crash : goal.returns-in-Err-clause-crash
-returns-in-Err-clause-crash g c s r kept f staged = refused_same c.in-Err.refusal still
 
 pub returns-in-Err-clause-readable : goal.returns-in-Err-clause-readable
 returns-in-Err-clause-readable g c again r is = subst (IsReadOf r) c.in-Err.is is again
@@ -39,6 +34,3 @@ returns-in-Ok-clause-given_up g c given = absurd (ok_no_err c.in-Ok.prospect rul
 
 pub returns-in-Err-clause-given_up : goal.returns-in-Err-clause-given_up
 returns-in-Err-clause-given_up g c given = ap Err (err_is c.in-Err.refusal rule.TryAgain c.args.foreseen c.in-Err.is given)
-
-pub returns-in-Err-clause-rest : goal.returns-in-Err-clause-rest
-returns-in-Err-clause-rest g c = grind arith

@@ -11,7 +11,7 @@ use Rattle.office.proofs.office.Office.serve_crowd.Goals.{then-turned, else-turn
 
 pub turns-init : goal.turns-init
 turns-init g c = (
-  λ before gone met numbers given gave. (
+  λ free before gone met numbers given gave. (
     [],
     [],
     subst (λ l. g.G.Crowd.met c.args.crowd.now l (gone ++ [])) (sym (append-nil before)) (subst (g.G.Crowd.met c.args.crowd.now before) (sym (append-nil gone)) met),
@@ -19,11 +19,11 @@ turns-init g c = (
     [],
     subst (g.G.Crowd.gave c.args.crowd.now numbers) (sym (append-nil given)) gave,
     omega arith,
-    λ p x at. absurd (none_is x (sym (c.requires p) ∙ at)),
+    λ p x at. absurd (none_is x (sym (free p) ∙ at)),
     λ s kept. (
       s,
       record { means = kept.means; sound = kept.sound },
-      crowd_starts g.R.Read.remaining g.W.Write.contents g.C.Clock.now_gives g.K.Keeper (length before) c.args.clock.now c.args.self.now.keeper s c.args.slots.now numbers c.requires,
+      crowd_starts g.R.Read.remaining g.W.Write.contents g.C.Clock.now_gives g.K.Keeper (length before) c.args.clock.now c.args.self.now.keeper s c.args.slots.now numbers free,
     ),
   ),
   λ honest. honest,
@@ -40,8 +40,8 @@ overflow_add-faulty g c =
     ]
 
 pub returns-clause-serves : goal.returns-clause-serves
-returns-clause-serves g c before gone met numbers given gave =
-    let i = c.turns.invariant.0 before gone met numbers given gave in
+returns-clause-serves g c free before gone met numbers given gave =
+    let i = c.turns.invariant.0 free before gone met numbers given gave in
     let more = c.next.ensures.changes (before ++ i.0) (gone ++ i.1) i.2 in
     let n = length (before ++ i.0) in
     let numbered = numbers_after more.3 n i.3 in
@@ -73,8 +73,8 @@ turns-preserved g c =
       | then-turned w ↦ w.faulty-is ∙ ap (λ (b : Bool). cond b 1 0) (sym w.if-turned.true)
       | else-turned w ↦ w.faulty-is ∙ ap (λ (b : Bool). cond b 1 0) (sym w.if-turned.false)
     ] in (
-      λ before gone met numbers given gave.
-          let i = j.0 before gone met numbers given gave in
+      λ free before gone met numbers given gave.
+          let i = j.0 free before gone met numbers given gave in
           let more = c.in-Some.ensures.changes (before ++ i.0) (gone ++ i.1) i.2 in
           let n = length (before ++ i.0) in
           let numbered = numbers_after more.3 n i.3 in

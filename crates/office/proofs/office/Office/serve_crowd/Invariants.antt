@@ -1,14 +1,14 @@
-use Rattle.std.proofs.Common.{◌≡◌, ◌≤◌, ◌+◌, ◌++◌, ℕ, List, length}
+use Rattle.std.proofs.Common.{◌≡◌, ◌≤◌, ◌+◌, ◌++◌, ℕ, List, None, length}
 use Rattle.boxes.specs.State.{State}
 use Rattle.office.specs.Premise.{IsLeft, StaysUnstaged, WasKept}
 use Rattle.wire.specs.declared.seat.Seat.{Seat}
-use Rattle.wire.specs.Crowds.{AreAmong}
+use Rattle.wire.specs.Crowds.{AreAmong, slot_at}
 use Rattle.office.proofs.CrowdTurns.{CrowdSoFar}
 use Rattle.office.proofs.office.Office.serve_crowd.Given as goal
 
 abbrev pub invariant-turns : goal.invariant-turns
 invariant-turns g l =
-    ((before gone : List (Seat g.row.R.Denot g.row.W.Denot)) → g.G.Crowd.met l.fn.crowd before gone
+    (((p : ℕ) → slot_at l.fn.slots p ≡ None) → (before gone : List (Seat g.row.R.Denot g.row.W.Denot)) → g.G.Crowd.met l.fn.crowd before gone
     → (numbers : ℕ → ℕ) (given : List ℕ) → g.G.Crowd.gave l.fn.crowd numbers given
     → (came went : List (Seat g.row.R.Denot g.row.W.Denot)) × g.G.Crowd.met l.crowd (before ++ came) (gone ++ went)
     × (numbered : ℕ → ℕ) × (more : List ℕ) × g.G.Crowd.gave l.crowd numbered (given ++ more)

@@ -1,6 +1,7 @@
 use Rattle.std.proofs.Common.{◌∙◌, ℕ, inl, inr, refl, subst, arith}
 use Rattle.sigtext.specs.Counts.{Rose}
 use Rattle.wire.specs.Feeds.{left, place_of, reader_of}
+use Rattle.office.proofs.Endings.{limit_no_read, limit_no_write}
 use Rattle.office.proofs.KeeperCalls.{unstaged_then}
 use Rattle.office.proofs.Holding.{holds_less, holds_still, holds_then}
 use Rattle.office.proofs.SessionSteps.{follows_first, follows_more, follows_end, follows_limit, not_fresh}
@@ -80,9 +81,9 @@ returns-clause-serves g c s kept =
 
 pub returns-clause-faults : goal.returns-clause-faults
 returns-clause-faults g c = record {
-  read = λ is. absurd cc;
+  read = λ is. absurd (limit_no_read is);
   not_read = λ other. c.messages.invariant.2;
-  written = λ is. absurd cc;
+  written = λ is. absurd (limit_no_write is);
   not_written = λ other. c.messages.invariant.3;
 }
 

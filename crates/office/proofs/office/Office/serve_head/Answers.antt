@@ -13,7 +13,7 @@ use Rattle.office.specs.Stepping.{IsExpected}
 use Rattle.office.proofs.BodySteps.{head_given_up_step}
 use Rattle.office.proofs.Handlings.{read_given_up, same_request, closed_again}
 use Rattle.office.proofs.Holding.{holds_less, holds_then}
-use Rattle.office.proofs.KeeperCalls.{Quiet}
+use Rattle.office.specs.Frames.{Quiet}
 use Rattle.office.proofs.SessionSteps.{before_quiet, steps_after}
 use Rattle.office.proofs.Unstaged.{some_may_later, ends_later}
 use Rattle.office.proofs.office.Office.serve_head.Goals as goal
@@ -28,7 +28,7 @@ returns-then-is_given_up-clause-steps g c s p known kept x =
     let message : Request = record { method = method; target = target; headers = headers; has_length = c.args.opening.now.has_length; body = [] } in
     let same : message ≡ request_of x.opens.head c.args.opening.now.has_length [] =
     same_request c.args.opening.now.text.now f.0 x.opens.head method target headers c.args.opening.now.has_length [] f.1 x.opens.tells.is_head f.2 f.3 f.5 in
-    let quiet : Quiet g.K.Keeper c.args.self.now.keeper c.foresee-foreseen.new.self.keeper (IsGivenUp c.foresee-foreseen.result) = record { means = foreseen.same; crash = foreseen.crash; rest = foreseen.rest } in
+    let quiet : Quiet g.K.Keeper c.args.self.now.keeper c.foresee-foreseen.new.self.keeper (IsGivenUp c.foresee-foreseen.result) = foreseen.looks.quiet in
     head_given_up_step g.R.Read.remaining c.args.feed.now g.C.Clock.now_gives p known (g.W.Write.contents c.args.writer.now.inner) (g.W.Write.contents c.close.new.writer.inner) c.args.clock.now
     g.K.Keeper c.args.self.now.keeper c.foresee-foreseen.new.self.keeper s c.args.opening.now.text.now c.args.opening.now.has_length c.args.opening.now.length x c.close.result (IsGivenUp c.foresee-foreseen.result) quiet kept
     (subst IsReadable same (read_given_up message c.foresee-foreseen.result (c.is_given_up.ensures.0 c.if-is_given_up.true) (foreseen.readable []))) c.close.ensures.closed
@@ -45,7 +45,7 @@ returns-clause-steps g c s p known kept x =
     let message : List ℕ → Request = λ body. record { method = method; target = target; headers = headers; has_length = c.args.opening.now.has_length; body = body } in
     let same : (body : List ℕ) → message body ≡ request_of x.opens.head c.args.opening.now.has_length body =
     λ body. same_request c.args.opening.now.text.now f.0 x.opens.head method target headers c.args.opening.now.has_length body f.1 x.opens.tells.is_head f.2 f.3 f.5 in
-    let quiet : Quiet g.K.Keeper c.args.self.now.keeper mid (IsGivenUp result) = record { means = foreseen.same; crash = foreseen.crash; rest = foreseen.rest } in
+    let quiet : Quiet g.K.Keeper c.args.self.now.keeper mid (IsGivenUp result) = foreseen.looks.quiet in
     let other : IsGivenUp result → ⊥ = λ is. both_ways c.is_given_up.result c.if-is_given_up.false (c.is_given_up.ensures.1 is) in
     let honest = c.serve_body.ensures.rest.honest kept.is_honest in
     let expected : IsExpected s c.args.opening.now.length known (left g.R.Read.remaining c.args.feed.now) result c.asks_head-to_head.result = record {
@@ -59,21 +59,21 @@ returns-clause-steps g c s p known kept x =
     steps_after g.C.Clock.now_gives p known (left g.R.Read.remaining c.serve_body.new.feed) (g.R.Read.remaining (reader_of c.serve_body.new.feed).inner) (g.W.Write.contents c.args.writer.now.inner) (g.W.Write.contents c.serve_body.new.writer.inner)
     c.args.clock.now c.serve_body.new.clock g.K.Keeper c.args.self.now.keeper mid c.serve_body.new.self.keeper s c.serve_body.result
     (before_quiet g.K.Keeper c.args.self.now.keeper mid s (IsGivenUp result) quiet other kept.means honest)
-    (c.serve_body.ensures.steps s p known (record { means = foreseen.same s kept.means; is_honest = kept.is_honest; sound = kept.sound }) expected)
+    (c.serve_body.ensures.steps s p known (record { means = foreseen.looks.quiet.same s kept.means; is_honest = kept.is_honest; sound = kept.sound }) expected)
 
 pub returns-clause-rest : goal.returns-clause-rest
 returns-clause-rest g c =
-    holds_then (holds_less (λ is. both_ways c.is_given_up.result c.if-is_given_up.false (c.is_given_up.ensures.1 is)) c.foresee-foreseen.ensures.rest)
-    (holds_less (some_may_later g.K.Keeper c.args.self.now.keeper c.foresee-foreseen.new.self.keeper c.serve_body.new.self.keeper c.serve_body.result c.foresee-foreseen.ensures.rest.never_less) c.serve_body.ensures.rest)
+    holds_then (holds_less (λ is. both_ways c.is_given_up.result c.if-is_given_up.false (c.is_given_up.ensures.1 is)) c.foresee-foreseen.ensures.looks.quiet.rest)
+    (holds_less (some_may_later g.K.Keeper c.args.self.now.keeper c.foresee-foreseen.new.self.keeper c.serve_body.new.self.keeper c.serve_body.result c.foresee-foreseen.ensures.looks.quiet.rest.never_less) c.serve_body.ensures.rest)
 
 pub returns-then-is_given_up-clause-unstaged : goal.returns-then-is_given_up-clause-unstaged
-returns-then-is_given_up-clause-unstaged g c = λ none. inl (c.foresee-foreseen.ensures.staged _ none)
+returns-then-is_given_up-clause-unstaged g c = λ none. inl (c.foresee-foreseen.ensures.looks.staged _ none)
 
 pub returns-then-is_given_up-clause-rest : goal.returns-then-is_given_up-clause-rest
-returns-then-is_given_up-clause-rest g c = holds_less (λ _. closed_again g.K.Keeper _ _ _ _ c.close.result c.close.ensures.closed) c.foresee-foreseen.ensures.rest
+returns-then-is_given_up-clause-rest g c = holds_less (λ _. closed_again g.K.Keeper _ _ _ _ c.close.result c.close.ensures.closed) c.foresee-foreseen.ensures.looks.quiet.rest
 
 pub returns-clause-unstaged : goal.returns-clause-unstaged
-returns-clause-unstaged g c = λ none. ends_later g.K.Keeper _ _ _ c.foresee-foreseen.ensures.rest.never_less (c.serve_body.ensures.unstaged (c.foresee-foreseen.ensures.staged _ none))
+returns-clause-unstaged g c = λ none. ends_later g.K.Keeper _ _ _ c.foresee-foreseen.ensures.looks.quiet.rest.never_less (c.serve_body.ensures.unstaged (c.foresee-foreseen.ensures.looks.staged _ none))
 
 pub returns-clause-faults : goal.returns-clause-faults
 returns-clause-faults g c = grind arith

@@ -3,10 +3,8 @@ use Rattle.wire.specs.Feeds.{reader_of}
 use Rattle.wire.proofs.Skips.{counts_none, lacks}
 use Rattle.sigv4.specs.Hashers.{ShaHolds}
 use Rattle.sigtext.specs.Counts.{Rose}
-use Rattle.office.proofs.Endurance.{asked_standing, then_adds}
 use Rattle.office.proofs.Endings.{broken_not_gave_up, broken_not_lacking, broken_not_whole, gave_up_not_broken, gave_up_not_lacking, gave_up_not_whole, lacking_not_broken, lacking_not_gave_up, lacking_not_whole, whole_not_broken, whole_not_gave_up, whole_not_lacking, same_digest}
-use Rattle.office.proofs.Holding.{holds_less, holds_then}
-use Rattle.office.proofs.KeeperCalls.{called_holds, on_err, on_ok, quiet_asked, quiet_less, quiet_then}
+use Rattle.office.proofs.KeeperCalls.{on_err, on_ok, quiet_asked, quiet_less, quiet_then}
 use Rattle.office.proofs.Stagings.{as_skipped, broken_rose, nothing_read, piece_size, stages_broken, stages_none, stages_on, stages_whole, stops}
 use Rattle.office.proofs.Unstaged.{rose_later}
 use Rattle.office.proofs.office.Office.stage_body.Goals as goal
@@ -49,63 +47,13 @@ pieces-preserved g c =
           (quiet_less (λ fault. on_ok ⊥ c.is_err-in-Ok-Bytes.result c.stage_piece.result no_err c.if-is_err-2.false fault) (quiet_asked c.stage_piece.result took.rest));
     }
 
--- ---- the keeper
-
-pub returns-then-is_err-clause-means : goal.returns-then-is_err-clause-means
-returns-then-is_err-clause-means g c = c.stage_begin.ensures.rest.same
-
-pub returns-then-is_err-clause-crash : goal.returns-then-is_err-clause-crash
-returns-then-is_err-clause-crash g c = λ s means honest. asked_standing c.stage_begin.ensures.rest means honest
-
 pub returns-then-is_err-clause-counts : goal.returns-then-is_err-clause-counts
 returns-then-is_err-clause-counts g c = λ _. on_err (Rose (g.K.Keeper.faults c.args.self.now.keeper) (g.K.Keeper.faults c.stage_begin.new.self)) c.is_err.result c.stage_begin.result c.is_err.ensures.value c.if-is_err.true c.stage_begin.ensures.rest.count.err
-
-pub returns-then-is_err-clause-rest : goal.returns-then-is_err-clause-rest
-returns-then-is_err-clause-rest g c = holds_less (λ _. refl) (called_holds c.stage_begin.result c.stage_begin.ensures.rest)
-
-pub returns-then-is_err-2-clause-means : goal.returns-then-is_err-2-clause-means
-returns-then-is_err-2-clause-means g c = λ s means. c.stage_piece.ensures.rest.same s (c.pieces.invariant.quiet.means s means)
-
-pub returns-then-is_err-2-clause-crash : goal.returns-then-is_err-2-clause-crash
-returns-then-is_err-2-clause-crash g c = λ s means honest.
-    then_adds (c.pieces.invariant.quiet.crash s means (c.stage_piece.ensures.rest.honest honest)) (asked_standing c.stage_piece.ensures.rest (c.pieces.invariant.quiet.means s means) honest)
 
 pub returns-then-is_err-2-clause-counts : goal.returns-then-is_err-2-clause-counts
 returns-then-is_err-2-clause-counts g c = λ _.
     rose_later _ _ _ c.pieces.invariant.quiet.rest.never_less
     (on_err (Rose (g.K.Keeper.faults c.pieces.self.keeper) (g.K.Keeper.faults c.stage_piece.new.self.keeper)) c.is_err-in-Ok-Bytes.result c.stage_piece.result c.is_err-in-Ok-Bytes.ensures.value c.if-is_err-2.true c.stage_piece.ensures.rest.count.err)
-
-pub returns-then-is_err-2-clause-rest : goal.returns-then-is_err-2-clause-rest
-returns-then-is_err-2-clause-rest g c = holds_less (λ _. refl) (holds_then c.pieces.invariant.quiet.rest (called_holds c.stage_piece.result c.stage_piece.ensures.rest))
-
-pub returns-in-Ok-Done-clause-means : goal.returns-in-Ok-Done-clause-means
-returns-in-Ok-Done-clause-means g c = c.pieces.invariant.quiet.means
-
-pub returns-in-Ok-Done-clause-crash : goal.returns-in-Ok-Done-clause-crash
-returns-in-Ok-Done-clause-crash g c = c.pieces.invariant.quiet.crash
-
-pub returns-in-Ok-Done-clause-rest : goal.returns-in-Ok-Done-clause-rest
-returns-in-Ok-Done-clause-rest g c = holds_less (λ none. absurd none) c.pieces.invariant.quiet.rest
-
-pub returns-in-Ok-Refused-clause-means : goal.returns-in-Ok-Refused-clause-means
-returns-in-Ok-Refused-clause-means g c = c.pieces.invariant.quiet.means
-
-pub returns-in-Ok-Refused-clause-crash : goal.returns-in-Ok-Refused-clause-crash
-returns-in-Ok-Refused-clause-crash g c = c.pieces.invariant.quiet.crash
-
-pub returns-in-Ok-Refused-clause-rest : goal.returns-in-Ok-Refused-clause-rest
-returns-in-Ok-Refused-clause-rest g c = holds_less (λ none. absurd none) c.pieces.invariant.quiet.rest
-
-pub returns-in-Err-clause-means : goal.returns-in-Err-clause-means
-returns-in-Err-clause-means g c = c.pieces.invariant.quiet.means
-
-pub returns-in-Err-clause-crash : goal.returns-in-Err-clause-crash
-returns-in-Err-clause-crash g c = c.pieces.invariant.quiet.crash
-
-pub returns-in-Err-clause-rest : goal.returns-in-Err-clause-rest
-returns-in-Err-clause-rest g c = holds_less (λ none. absurd none) c.pieces.invariant.quiet.rest
-
--- ---- another end than the clause speaks of
 
 pub returns-then-is_err-clause-whole : goal.returns-then-is_err-clause-whole
 returns-then-is_err-clause-whole g c = λ digest is. absurd (gave_up_not_whole digest is)
@@ -233,3 +181,18 @@ returns-in-Ok-Refused-clause-same g c = grind arith
 
 pub returns-then-is_err-2-clause-same : goal.returns-then-is_err-2-clause-same
 returns-then-is_err-2-clause-same g c = grind arith
+
+pub returns-then-is_err-clause-quiet : goal.returns-then-is_err-clause-quiet
+returns-then-is_err-clause-quiet g c = quiet_less (λ _. refl) (quiet_asked c.stage_begin.result c.stage_begin.ensures.rest)
+
+pub returns-then-is_err-2-clause-quiet : goal.returns-then-is_err-2-clause-quiet
+returns-then-is_err-2-clause-quiet g c = quiet_less (λ _. refl) (quiet_then c.pieces.invariant.quiet (quiet_asked c.stage_piece.result c.stage_piece.ensures.rest))
+
+pub returns-in-Ok-Done-clause-quiet : goal.returns-in-Ok-Done-clause-quiet
+returns-in-Ok-Done-clause-quiet g c = quiet_less (λ none. absurd none) c.pieces.invariant.quiet
+
+pub returns-in-Ok-Refused-clause-quiet : goal.returns-in-Ok-Refused-clause-quiet
+returns-in-Ok-Refused-clause-quiet g c = quiet_less (λ none. absurd none) c.pieces.invariant.quiet
+
+pub returns-in-Err-clause-quiet : goal.returns-in-Err-clause-quiet
+returns-in-Err-clause-quiet g c = quiet_less (λ none. absurd none) c.pieces.invariant.quiet

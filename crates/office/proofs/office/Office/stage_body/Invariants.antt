@@ -1,7 +1,7 @@
 use Rattle.std.proofs.Common.{◌≡◌}
 use Rattle.office.proofs.StagedSoFar.{HasStaged}
 use Rattle.wire.proofs.Skipping.{to_come}
-use Rattle.office.proofs.KeeperCalls.{Quiet}
+use Rattle.office.specs.Frames.{Quiet}
 use Rattle.office.proofs.office.Office.stage_body.Given as goal
 
 abbrev pub invariant-pieces : goal.invariant-pieces

@@ -1,8 +1,6 @@
 use Rattle.std.proofs.Common.{arith}
-use Rattle.office.proofs.KeeperCalls.{on_err_too}
+use Rattle.office.proofs.KeeperCalls.{on_err_too, is_fault, quiet_asked, quiet_both, quiet_less, quiet_still}
 use Rattle.links.proofs.WrittenBytes.{are_bytes}
-use Rattle.office.proofs.Holding.{holds_still}
-use Rattle.office.proofs.Endurance.{asked_standing, still, then_adds}
 use Rattle.office.proofs.office.Office.stage_upload.Goals as goal
 
 pub returns-then-not-is_upload-clause-octets : goal.returns-then-not-is_upload-clause-octets
@@ -13,21 +11,6 @@ returns-then-is_err-clause-octets g c = are_bytes c.args.body.now c.type_inv.bod
 
 pub returns-else-is_err-clause-octets : goal.returns-else-is_err-clause-octets
 returns-else-is_err-clause-octets g c = are_bytes c.args.body.now c.type_inv.body
-
-pub returns-then-not-is_upload-clause-crash : goal.returns-then-not-is_upload-clause-crash
-returns-then-not-is_upload-clause-crash g c = λ s means honest. still
-
-pub returns-then-not-is_upload-clause-rest : goal.returns-then-not-is_upload-clause-rest
-returns-then-not-is_upload-clause-rest g c = holds_still
-
-pub returns-then-is_err-clause-crash : goal.returns-then-is_err-clause-crash
-returns-then-is_err-clause-crash g c = λ s means honest. then_adds (c.stage_whole-staged.ensures.crash s means (c.stage_drop.ensures.rest.honest honest)) (asked_standing c.stage_drop.ensures.rest (c.stage_whole-staged.ensures.same s means) honest)
-
-pub returns-else-is_err-clause-crash : goal.returns-else-is_err-clause-crash
-returns-else-is_err-clause-crash g c = c.stage_whole-staged.ensures.crash
-
-pub returns-else-is_err-clause-rest : goal.returns-else-is_err-clause-rest
-returns-else-is_err-clause-rest g c = c.stage_whole-staged.ensures.rest
 
 pub returns-then-is_err-clause-asked : goal.returns-then-is_err-clause-asked
 returns-then-is_err-clause-asked g c = on_err_too c.stage_whole-staged.result c.if-not-is_upload.false
@@ -44,14 +27,17 @@ returns-then-is_err-clause-fault g c = grind arith
 pub returns-then-is_err-clause-passed : goal.returns-then-is_err-clause-passed
 returns-then-is_err-clause-passed g c = grind arith
 
-pub returns-then-is_err-clause-rest : goal.returns-then-is_err-clause-rest
-returns-then-is_err-clause-rest g c = grind arith
-
-pub returns-then-is_err-clause-same : goal.returns-then-is_err-clause-same
-returns-then-is_err-clause-same g c = grind arith
-
 pub returns-then-is_err-clause-staged : goal.returns-then-is_err-clause-staged
 returns-then-is_err-clause-staged g c = grind arith
 
 pub returns-then-not-is_upload-clause-staged : goal.returns-then-not-is_upload-clause-staged
 returns-then-not-is_upload-clause-staged g c = grind arith
+
+pub returns-then-not-is_upload-clause-quiet : goal.returns-then-not-is_upload-clause-quiet
+returns-then-not-is_upload-clause-quiet g c = quiet_still
+
+pub returns-then-is_err-clause-quiet : goal.returns-then-is_err-clause-quiet
+returns-then-is_err-clause-quiet g c = quiet_less (λ _. is_fault c.is_err.result c.stage_whole-staged.result c.is_err.ensures.value c.if-is_err.true) (quiet_both c.stage_whole-staged.ensures.quiet (quiet_asked c.stage_drop.result c.stage_drop.ensures.rest))
+
+pub returns-else-is_err-clause-quiet : goal.returns-else-is_err-clause-quiet
+returns-else-is_err-clause-quiet g c = c.stage_whole-staged.ensures.quiet
