@@ -1,5 +1,5 @@
 -- Adding a receipt to a published manifest.
-use Rattle.std.proofs.Common.{◌≡◌, ◌∙◌, ℕ, ◌+◌, List, [], ◌∷◌, ◌++◌, length, Option, None, Some, Result, Ok, Err, OnOk, OnErr, refl, sym, ap, subst, append_assoc, arith}
+use Rattle.std.proofs.Common.{◌≡◌, ◌∙◌, ℕ, ◌+◌, List, [], ◌∷◌, ◌++◌, length, Option, None, Some, refl, sym, ap, subst, append_assoc, arith}
 use Rattle.boxes.specs.State.{Receipt, State}
 use Rattle.boxes.specs.Rows.{numbered}
 use Rattle.boxes.specs.Steps.{Command, CommandStep, receipt_of, key_added, key_revoked, box_added, box_closed, file_dropped, key_limited, allowance_set}
@@ -13,14 +13,6 @@ use Rattle.lists.specs.Lists.{line, AreLines, IsTable}
 use Rattle.lists.specs.Manifests.{manifest_head, IsReceiptLine}
 use Rattle.lists.proofs.AnsweredLists.{lines_joined}
 use Rattle.lists.specs.Published.{AddsAll, IsPublished}
-
-pub on_ok_more : {T E A B : Type 0} (r : Result T E) → OnOk r A → (A → B) → OnOk r B
-on_ok_more (Ok x) a more = more a
-on_ok_more (Err e) a more = tt
-
-pub on_err_more : {T E A B : Type 0} (r : Result T E) → OnErr r A → (A → B) → OnErr r B
-on_err_more (Ok x) a more = tt
-on_err_more (Err e) a more = more a
 
 -- a change allowed with the staged bytes is allowed whatever is staged
 pub may_change : (Stages : List ℕ → Type 0) (s : State) (c : Change) (after : State) → IsChangeOf Stages s c after → MayChange s c after

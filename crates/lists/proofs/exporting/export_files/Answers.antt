@@ -1,14 +1,33 @@
-use Rattle.std.proofs.Common.{◌≡◌, ◌∙◌, Err, refl, sym, subst, arith}
+use Rattle.std.proofs.Common.{◌≡◌, ◌∙◌, ℕ, Err, refl, sym, subst, arith}
 use Rattle.std.proofs.lemmas.Result.{err_from_is_err_and}
 use Rattle.std.specs.declared.cmp.Ordering.TheVariants.{Less}
+use Rattle.sigtext.specs.Counts.{CountsErrors}
+use Rattle.boxes.specs.Bound.{StaysBy}
 use Rattle.boxes.specs.State.{Place, place_cmp}
 use Rattle.lists.specs.Asking.{stays_joined, stays_unasked}
 use Rattle.lists.specs.Places.{place_in}
 use Rattle.lists.specs.Exports.{files_in, named_box}
-use Rattle.lists.specs.Faults.{was_put}
+use Rattle.lists.specs.Faults.{by_files, by_keeper, by_sums, was_put, IsOfAsking}
+use Rattle.lists.specs.declared.export_fault.ExportFault.{ExportFault}
+use Rattle.lists.specs.declared.export_fault.ExportFault.TheVariants as fault
 use Rattle.lists.proofs.BoxFiles.{in_files, start_before, start_inside}
 use Rattle.lists.proofs.Walks.{none_first, walk_begins, walk_breaks, walk_ends, walk_moves, walk_stops}
 use Rattle.lists.proofs.exporting.export_files.Goals as goal
+
+-- a fault of the keeper or of memory counts for no writer
+asked_files : {a b : ℕ} (f : ExportFault) → IsOfAsking f → b ≡ a → CountsErrors a b (by_files {T = Unit {0}} (Err f))
+asked_files (fault.Keep f) is same = record { err = tt; ok = same }
+asked_files fault.Memory is same = record { err = tt; ok = same }
+asked_files (fault.Put f) is same = absurd is
+asked_files fault.Files is same = absurd is
+asked_files fault.Sums is same = absurd is
+
+asked_sums : {a b : ℕ} (f : ExportFault) → IsOfAsking f → b ≡ a → CountsErrors a b (by_sums {T = Unit {0}} (Err f))
+asked_sums (fault.Keep f) is same = record { err = tt; ok = same }
+asked_sums fault.Memory is same = record { err = tt; ok = same }
+asked_sums (fault.Put f) is same = absurd is
+asked_sums fault.Files is same = absurd is
+asked_sums fault.Sums is same = absurd is
 
 pub returns-in_err-after-clause-sent : goal.returns-in_err-after-clause-sent
 returns-in_err-after-clause-sent g c =
@@ -93,8 +112,35 @@ returns-in_default-clause-sums_count g c = grind arith
 pub returns-in_err-after-clause-stays : goal.returns-in_err-after-clause-stays
 returns-in_err-after-clause-stays g c = grind arith
 
+-- ---- what was counted
+
+pub returns-in_err-place-clause-stays : goal.returns-in_err-place-clause-stays
+returns-in_err-place-clause-stays g c =
+    let told = err_from_is_err_and c.from_residual-in_err-place.result c.from_residual-in_err-place.ensures.1 in
+    rw told.1 (subst (λ f. StaysBy g.K.Keeper c.args.keeper.now c.next_place.new.keeper (by_keeper {T = Unit {0}} (Err f))) (sym told.2)
+    (stays_joined _ _ _ _ c.files.invariant.stays c.in_err-place.ensures.stays))
+
+pub returns-in_err-place-clause-files_count : goal.returns-in_err-place-clause-files_count
+returns-in_err-place-clause-files_count g c =
+    let told = err_from_is_err_and c.from_residual-in_err-place.result c.from_residual-in_err-place.ensures.1 in
+    rw told.1 (asked_files told.0 (subst IsOfAsking (sym told.2) c.in_err-place.ensures.fault) c.files.invariant.files_count)
+
+pub returns-in_err-place-clause-sums_count : goal.returns-in_err-place-clause-sums_count
+returns-in_err-place-clause-sums_count g c =
+    let told = err_from_is_err_and c.from_residual-in_err-place.result c.from_residual-in_err-place.ensures.1 in
+    rw told.1 (asked_sums told.0 (subst IsOfAsking (sym told.2) c.in_err-place.ensures.fault) c.files.invariant.sums_count)
+
+pub returns-in_err-export_file-clause-stays : goal.returns-in_err-export_file-clause-stays
+returns-in_err-export_file-clause-stays g c =
+    let told = err_from_is_err_and c.from_residual-in_err-export_file.result c.from_residual-in_err-export_file.ensures.1 in
+    rw (told.1, told.2) (stays_joined _ _ _ _ (stays_joined _ _ _ _ c.files.invariant.stays c.in_ok-place.ensures.stays) c.in_err-export_file.ensures.stays)
+
 pub returns-in_err-export_file-clause-files_count : goal.returns-in_err-export_file-clause-files_count
-returns-in_err-export_file-clause-files_count g c = grind arith
+returns-in_err-export_file-clause-files_count g c =
+    let told = err_from_is_err_and c.from_residual-in_err-export_file.result c.from_residual-in_err-export_file.ensures.1 in
+    rw (told.1, told.2) (subst (λ n. CountsErrors n c.export_file.new.files.faults (by_files {T = Unit {0}} (Err c.in_err-export_file.field-0.0))) c.files.invariant.files_count c.in_err-export_file.ensures.files_count)
 
 pub returns-in_err-export_file-clause-sums_count : goal.returns-in_err-export_file-clause-sums_count
-returns-in_err-export_file-clause-sums_count g c = grind arith
+returns-in_err-export_file-clause-sums_count g c =
+    let told = err_from_is_err_and c.from_residual-in_err-export_file.result c.from_residual-in_err-export_file.ensures.1 in
+    rw (told.1, told.2) (subst (λ n. CountsErrors n c.export_file.new.sums.faults (by_sums {T = Unit {0}} (Err c.in_err-export_file.field-0.0))) c.files.invariant.sums_count c.in_err-export_file.ensures.sums_count)

@@ -1,5 +1,6 @@
 use Rattle.std.proofs.Common.{subst, sym, arith}
-use Rattle.lists.proofs.Added.{may_change, on_err_more, on_ok_more}
+use Rattle.shelf.proofs.Answered.{on_err_more, on_ok_more}
+use Rattle.lists.proofs.Added.{may_change}
 use Rattle.lists.proofs.publishes.PublisherKeeper.apply.Goals as goal
 
 pub returns-then-is_ok-clause-made : goal.returns-then-is_ok-clause-made
