@@ -5,3 +5,4 @@ pub mod Lines
 pub mod Outputs
 pub mod Returned
 pub mod Turns
+mod Whole
