@@ -1,3 +1,4 @@
+pub mod FileWorks
 pub mod Working
 pub mod Holding
 pub mod Leaving

@@ -1,8 +1,6 @@
 -- What the command's work makes of the open connection.
-use Rattle.std.specs.Prelude.{◌≡◌, ◌⊎◌, IfErr, IfOk, IsTrue, Result}
-use Rattle.sqlite.specs.State.{State, HasCleanDisk, IsLive, Opens}
-use Rattle.sqlite.specs.Recovery.{Image}
-use Rattle.sqlite.specs.Start.{FindsIn}
+use Rattle.std.specs.Prelude.{◌≡◌, ◌⊎◌, IsTrue}
+use Rattle.sqlite.specs.State.{State, HasCleanDisk}
 use Rattle.sqlite.specs.Tree.{Trees}
 use Rattle.boxes.specs.State.{State as Office}
 use Rattle.sqltables.specs.Kept.{KeepsState, LeavesStates, MayLeave, RowsKeep}
@@ -49,22 +47,6 @@ pub record MigratedOn (old new : State) : Type 0 where
   pub crash : (t : Office) → MayLeave new t → t ≡ office
   pub whole : LeavesStates new
 
--- While the disk has returned what was written, the connection is a new one, and it found what this image holds.
-abbrev pub OpensOn : Image → State → Type 0
-OpensOn image now = HasCleanDisk now → (Opens now × IsLive now) × FindsIn image now
-
--- What became of a connection: with a success the work was done, with an error it was not begun. show: what a connection shows.
-pub record WorksOn {C G : Type 0} (show : C → State) (conn : C) (Step : G → Office → Office → Asked → Type 0) (result : Result (G × C) (G × C)) : Type 0 where
-  pub ran : WasOurs (show conn) → IfOk result (λ r. HasCleanDisk (show r.1) → RanOn (show conn) (show r.1) (Step r.0))
-  pub looked : IfErr result (λ r. StillSees (show conn) (show r.1))
-  pub spared : WasOurs (show conn) → IfErr result (λ r. SparesShown (show conn) (show r.1) (KeepsState (show conn)))
-
--- the same for a migration
-pub record MigratesOn {C F : Type 0} (show : C → State) (conn : C) (result : Result C (F × C)) : Type 0 where
-  pub made : WasOurs (show conn) → IfOk result (λ made. HasCleanDisk (show made) → MigratedOn (show conn) (show made))
-  pub looked : IfErr result (λ r. StillSees (show conn) (show r.1))
-  pub spared : WasOurs (show conn) → IfErr result (λ r. SparesShown (show conn) (show r.1) (IsOfficeFile (show conn)))
-
 -- The tables of a connection mean this state, which was made in a database without tables. A crash leaves that state alone.
 pub record MadeOn (old new : State) (first : Office) : Type 0 where
   pub bare : old.now.schema ≡ s0
@@ -72,8 +54,3 @@ pub record MadeOn (old new : State) (first : Office) : Type 0 where
   pub keeps : KeepsState new first
   pub whole : LeavesStates new
   pub alone : (t : Office) → MayLeave new t → t ≡ first
-
--- the same for a new office, of which this is the first state
-pub record MakesOn {C F : Type 0} (show : C → State) (conn : C) (first : Office) (result : Result C (F × C)) : Type 0 where
-  pub made : IfOk result (λ made. HasCleanDisk (show made) → MadeOn (show conn) (show made) first)
-  pub spared : IfErr result (λ r. SparesShown (show conn) (show r.1) (λ t. ((show conn).now.schema ≡ s0) × (t ≡ first)))

@@ -1,26 +1,19 @@
 //! `drop init`: makes an office file.
-ghost use Rattle.std.specs.Prelude.{◌≡◌, ◌≤◌, ◌⊎◌, pos, neg_ℤ, ◌≤ℤ◌, IfOk, IfSome, IsOk, IsTrue};
-ghost use Rattle.sqlite.specs.Files.{file_state};
-ghost use Rattle.sqlite.specs.Held.{state};
-ghost use Rattle.sqlite.specs.Recovery.{Image};
+ghost use Rattle.std.specs.Prelude.{◌≤◌, IfOk, IfSome, IsOk, IsTrue};
 ghost use Rattle.sqlite.specs.WalFiles.{image_at};
-ghost use Rattle.sigv4.specs.Credential.{IsKeyId, IsSecret};
-ghost use Rattle.boxes.specs.FirstState.{first_state};
 ghost use Rattle.commands.specs.Wording.{IsNumber};
-ghost use Rattle.dropoffice.specs.Working.{MakesOn, OpensOn};
 ghost use Rattle.dropoffice.specs.Leaving.{IsCleanLeft, IsClosed};
 ghost use Rattle.dropoffice.specs.Performing.{HasSettings, IsFirstRow, IsGivenSecret, IsSecretOf, MayMake};
 
+use crate::file_work::{FileWork, work_in};
 use crate::files::Purpose;
 use crate::left::{FileLeft, Left, Worked, ended_with};
-use crate::opening::{connect, end_work, unfit};
+use crate::opening::{connect, unfit};
 use boxes::OfficeRow;
 use commands::{Argument, Fault, check_secret, read_secret_file};
 use sigv4::{Allowance, is_key_id};
-use sqlite::{Alter, Connection, FileStore, Start};
-use sqlite_disk::Disk;
+use sqlite::{Alter, Connection, Start};
 use sqlkeeper::SqlKeeper;
-use std::alloc::Global;
 use std::fs;
 use std::fs::{Files, OpenFile, OpenOptions, Permissions};
 use std::io::ErrorKind;
@@ -187,49 +180,55 @@ fn make_office<S: Start + Drop>(
     ensures opened { IsOk result.gain → IsOk result.closed → IsClosed result.left }
 {
     match connect(rt, words.file, Purpose::Change, start) {
-        Ok(conn) => make_in(rt.alloc(), conn, words, secret, office),
+        Ok(conn) => {
+            let clerk = words.clerk.as_bytes();
+            let making = Making {
+                office,
+                clerk,
+                secret,
+            };
+            work_in(rt, conn, Purpose::Change, making)
+        }
         Err((fault, left)) => ended_with(Err(fault), left),
     }
 }
 
-// Makes an office in the database of a new connection, and closes it.
-fn make_in<S: Drop, D: Disk + Drop>(
-    alloc: Global,
-    conn: Connection<FileStore<D>>,
-    words: &Init<'_>,
-    secret: &[u8],
+// Makes an office in a database without tables.
+#[derive(Drop)]
+struct Making<'a> {
+    // Its settings.
     office: OfficeRow,
-) -> Worked<Result<(), Fault>, Left<S, D>>
-    ensures made { (image : Image) (start : S) → OpensOn image (file_state conn) → IsFirstRow words.now office secret.now → IsCleanLeft result.left
-        → MayMake words.now image start result.left (IsOk result.gain) }
-    ensures opened { IsOk result.gain → IsOk result.closed → IsClosed result.left }
-{
-    match create_over(alloc, conn, office, words.clerk.as_bytes(), secret) {
-        Ok(conn) => {
-            let (closed, left) = end_work(conn, Purpose::Change);
-            Worked {
-                gain: Ok(()),
-                closed,
-                left,
-            }
-        }
-        Err((fault, conn)) => ended_with(Err(fault), Left::Looked(conn)),
-    }
+    // The id of its clerk's key.
+    clerk: &'a [u8],
+    // The secret of that key.
+    secret: &'a [u8],
 }
 
-// Makes an office in a database without tables. The error means that it could not be made.
-fn create_over<S: Alter + Drop>(
-    alloc: Global,
-    conn: Connection<S>,
-    office: OfficeRow,
-    clerk: &[u8],
-    secret: &[u8],
-) -> Result<Connection<S>, (Fault, Connection<S>)>
-    ensures { neg_ℤ (pos 840) ≤ℤ office.east → office.east ≤ℤ pos 840 → IsKeyId clerk.now → IsSecret secret.now
-        → MakesOn (state S.Store) conn (first_state office.east office.allowance clerk.now secret.now) result }
-{
-    match SqlKeeper::create(alloc, conn, office, clerk, secret) {
-        Ok(keeper) => Ok(keeper.close()),
-        Err((fault, conn)) => Err((unfit(fault), conn)),
+impl FileWork for Making<'_> {
+    ghost use Rattle.std.specs.Prelude.{◌≡◌, IsOk};
+    ghost use Rattle.sqlite.specs.State.{HasCleanDisk};
+    ghost use Rattle.boxes.specs.FirstState.{first_state};
+    ghost use Rattle.sqltables.specs.Schema.{s0};
+    ghost use Rattle.dropoffice.specs.FileWorks.{AreFit};
+    ghost use Rattle.dropoffice.specs.Working.{MadeOn, SparesShown};
+
+    type Gain = Result<(), Fault>;
+
+    ghost done = { λ it old gain new. AreFit it.office it.clerk.now it.secret.now → HasCleanDisk new
+        → MadeOn old new (first_state it.office.east it.office.allowance it.clerk.now it.secret.now) };
+
+    ghost undone = { λ it old gain new. (IsOk gain → ⊥) × (AreFit it.office it.clerk.now it.secret.now
+        → SparesShown old new (λ t. (old.now.schema ≡ s0)
+        × (t ≡ first_state it.office.east it.office.allowance it.clerk.now it.secret.now))) };
+
+    fn go<S: Alter + Drop>(
+        self,
+        rt: &HostRuntime,
+        conn: Connection<S>,
+    ) -> Result<(Result<(), Fault>, Connection<S>), (Result<(), Fault>, Connection<S>)> {
+        match SqlKeeper::create(rt.alloc(), conn, self.office, self.clerk, self.secret) {
+            Ok(keeper) => Ok((Ok(()), keeper.close())),
+            Err((fault, conn)) => Err((Err(unfit(fault)), conn)),
+        }
     }
 }

@@ -2,6 +2,7 @@
 #![tactic(auto)]
 
 mod ending;
+mod file_work;
 mod files;
 mod init;
 mod left;

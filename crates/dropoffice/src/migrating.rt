@@ -1,24 +1,21 @@
 //! `drop migrate`: migrates an office file from version 1 to version 2.
 ghost use Rattle.std.specs.Prelude.{IsOk};
-ghost use Rattle.sqlite.specs.Files.{file_state};
-ghost use Rattle.sqlite.specs.Held.{state};
-ghost use Rattle.sqlite.specs.Recovery.{Image};
 ghost use Rattle.sqlite.specs.WalFiles.{image_at};
+ghost use Rattle.commands.specs.Obeying.{done_line};
+ghost use Rattle.commands.specs.Saying.{HandsBack, Says};
 ghost use Rattle.dropoffice.specs.Holding.{HoldsOurs};
-ghost use Rattle.dropoffice.specs.Working.{MigratesOn, OpensOn};
 ghost use Rattle.dropoffice.specs.Leaving.{IsCleanLeft, IsClosed};
 ghost use Rattle.dropoffice.specs.Performing.{MayMigrate};
 
 use crate::ending::unclosed;
+use crate::file_work::{FileWork, work_in};
 use crate::files::{Purpose, require_file};
 use crate::left::{FileLeft, Left, Worked, ended_with};
-use crate::opening::{connect, end_work, unfit};
+use crate::opening::{connect, unfit};
 use crate::works::failed;
 use commands::{Done, Fault, tell};
-use sqlite::{Alter, Connection, FileStore, Start};
-use sqlite_disk::Disk;
+use sqlite::{Alter, Connection, Error, Start};
 use sqlkeeper::SqlKeeper;
-use std::alloc::Global;
 use std::io::Write;
 use tasks::OfficeFile;
 
@@ -37,39 +34,55 @@ pub(crate) fn do_migrate<S: Start + Drop, W: Write + Drop>(
         return ended_with(failed(fault, out), Left::Unopened(start));
     }
     match connect(rt, words.file, Purpose::Change, start) {
-        Ok(conn) => migrate_in(rt.alloc(), conn, out),
+        Ok(conn) => {
+            let Worked { gain, closed, left } = work_in(rt, conn, Purpose::Change, Migration);
+            ended_with(tell_migrated(gain, closed, out), left)
+        }
         Err((fault, left)) => ended_with(failed(fault, out), left),
     }
 }
 
-// Migrates the office of a new connection, closes it, and writes the line `done`.
-fn migrate_in<S: Drop, D: Disk + Drop, W: Write + Drop>(
-    alloc: Global,
-    conn: Connection<FileStore<D>>,
+// Writes the line `done` if the office was migrated and its file closed.
+fn tell_migrated<W: Write + Drop>(
+    migrated: Result<(), Fault>,
+    closed: Result<(), Error>,
     out: W,
-) -> Worked<Done<W>, Left<S, D>>
-    ensures ran { (image : Image) (start : S) → OpensOn image (file_state conn) → HoldsOurs image → IsCleanLeft result.left
-        → MayMigrate image start result.left W.contents (IsOk result.gain.result) out result.gain.out }
-    ensures opened { IsOk result.gain.result → IsClosed result.left }
+) -> Done<W>
+    ensures said { IsOk migrated → Says W.contents done_line (IsOk result.result) out result.out }
+    ensures handed { (IsOk migrated → ⊥) → HandsBack (IsOk result.result) out result.out }
+    ensures done { IsOk result.result → IsOk migrated × IsOk closed }
 {
-    match migrate_over(alloc, conn) {
-        Ok(conn) => {
-            let (closed, left) = end_work(conn, Purpose::Change);
-            ended_with(tell(closed.map_err(unclosed), out), left)
-        }
-        Err((fault, conn)) => ended_with(failed(fault, out), Left::Looked(conn)),
+    match migrated {
+        Ok(()) => tell(closed.map_err(unclosed), out),
+        Err(fault) => failed(fault, out),
     }
 }
 
-// Migrates the office of a connection. The error means that it could not be migrated.
-fn migrate_over<S: Alter + Drop>(
-    alloc: Global,
-    conn: Connection<S>,
-) -> Result<Connection<S>, (Fault, Connection<S>)>
-    ensures { MigratesOn (state S.Store) conn result }
-{
-    match SqlKeeper::migrate(alloc, conn) {
-        Ok(keeper) => Ok(keeper.close()),
-        Err((fault, conn)) => Err((unfit(fault), conn)),
+// Migrates the office.
+#[derive(Drop)]
+struct Migration;
+
+impl FileWork for Migration {
+    ghost use Rattle.std.specs.Prelude.{IsOk};
+    ghost use Rattle.sqlite.specs.State.{HasCleanDisk};
+    ghost use Rattle.sqlkeeper.specs.Versions.{IsOfficeFile};
+    ghost use Rattle.dropoffice.specs.Working.{MigratedOn, SparesShown, StillSees, WasOurs};
+
+    type Gain = Result<(), Fault>;
+
+    ghost done = { λ it old gain new. IsOk gain × (WasOurs old → HasCleanDisk new → MigratedOn old new) };
+
+    ghost undone = { λ it old gain new. (IsOk gain → ⊥) × StillSees old new
+        × (WasOurs old → SparesShown old new (IsOfficeFile old)) };
+
+    fn go<S: Alter + Drop>(
+        self,
+        rt: &HostRuntime,
+        conn: Connection<S>,
+    ) -> Result<(Result<(), Fault>, Connection<S>), (Result<(), Fault>, Connection<S>)> {
+        match SqlKeeper::migrate(rt.alloc(), conn) {
+            Ok(keeper) => Ok((Ok(()), keeper.close())),
+            Err((fault, conn)) => Err((Err(unfit(fault)), conn)),
+        }
     }
 }

@@ -1,9 +1,7 @@
-//! The office file of a command: its connection, its keeper, and the command's work.
+//! The office file of a command: its connection, and the end of the command's work.
 ghost use Rattle.std.specs.Prelude.{◌≡◌, ◌≢◌, ◌⊎◌, IfErr, IfOk, IsOk};
 ghost use Rattle.sqlite.specs.State.{HasCleanDisk};
-ghost use Rattle.sqlite.specs.Held.{state};
 ghost use Rattle.sqlite.specs.Files.{file_state, IsOpened};
-ghost use Rattle.sqlite.specs.Recovery.{Image};
 ghost use Rattle.sqlite.specs.Start.{FindsIn};
 ghost use Rattle.sqlite.specs.WalFiles.{image_at};
 ghost use Rattle.boxes.specs.State.{State};
@@ -11,17 +9,15 @@ ghost use Rattle.sqltables.specs.Kept.{KeepsState, LeavesStates};
 ghost use Rattle.dropoffice.specs.Leaving.{IsCleanLeft, IsClosed, IsLeftOf, IsLooked, IsSpared, LeavesOffice, MayCrashTo};
 ghost use Rattle.dropoffice.specs.Performing.{MayRun};
 ghost use Rattle.dropoffice.specs.Holding.{HoldsOurs};
-ghost use Rattle.dropoffice.specs.Working.{OpensOn, WorksOn};
 
+use crate::file_work::{Opened, work_in};
 use crate::files::{Purpose, require_file};
 use crate::left::{FileLeft, Left, Worked, ended_with};
 use commands::{Fault, OfficeWork};
-use sqlite::{
-    Alter, Connection, Error, ErrorCode, FileFrom, FileStore, Files, Leftover, Options, Start,
-};
+use sqlite::{Connection, Error, ErrorCode, FileFrom, FileStore, Files, Leftover, Options, Start};
 use sqlite_disk::Disk;
 use sqlite_std_file::OpenError;
-use sqlkeeper::{OpenFault, SqlKeeper};
+use sqlkeeper::OpenFault;
 use std::hash::{BuildHasher, RandomState};
 use std::io::ErrorKind;
 
@@ -125,34 +121,7 @@ pub(crate) fn unfit(fault: OpenFault) -> Fault {
     }
 }
 
-// Why an office could not be opened.
-fn unopenable(fault: OpenFault) -> Fault {
-    match fault {
-        OpenFault::Store => Fault::CannotOpen,
-        other => unfit(other),
-    }
-}
-
-// Does the work on the office of a connection. Returns what the work gives, and the connection. The error means that the office
-// could not be opened.
-fn work_on<S: Alter + Drop, W: OfficeWork + Drop>(
-    rt: &HostRuntime,
-    conn: Connection<S>,
-    work: W,
-) -> Result<(W::Gain, Connection<S>), (W::Gain, Connection<S>)>
-    ensures works { WorksOn (state S.Store) conn (W.step work) result }
-    ensures idle { IfErr result (λ r. W.idle work r.0) }
-{
-    match SqlKeeper::open(rt.alloc(), conn) {
-        Ok(keeper) => {
-            let (gain, keeper) = work.run(rt, keeper);
-            Ok((gain, keeper.close()))
-        }
-        Err((fault, conn)) => Err((work.refuse(unopenable(fault)), conn)),
-    }
-}
-
-// Ends the work on an office file. The error means that it could not be closed.
+/// Ends the work on an office file. The error means that it could not be closed.
 pub(crate) fn end_work<S, D: Disk + Drop>(
     conn: Connection<FileStore<D>>,
     purpose: Purpose,
@@ -165,10 +134,9 @@ pub(crate) fn end_work<S, D: Disk + Drop>(
     ensures crash { IsCleanLeft result.1 → (s : State) → KeepsState (file_state conn) s
         → LeavesStates (file_state conn) → MayCrashTo result.1 (IsLeftOf (file_state conn) s) }
 {
-    if purpose == Purpose::Look {
-        (Ok(()), Left::Looked(conn))
-    } else {
-        close_work(conn)
+    match purpose {
+        Purpose::Look => (Ok(()), Left::Looked(conn)),
+        _ => close_work(conn),
     }
 }
 
@@ -206,29 +174,7 @@ pub(crate) fn work_over<S: Start + Drop, W: OfficeWork + Drop>(
         return ended_with(work.refuse(fault), Left::Unopened(start));
     }
     match connect(rt, file, purpose, start) {
-        Ok(conn) => work_in(rt, conn, purpose, work),
+        Ok(conn) => work_in(rt, conn, purpose, Opened { work }),
         Err((fault, left)) => ended_with(work.refuse(fault), left),
-    }
-}
-
-// Does the work on the office of a new connection, and ends it.
-fn work_in<S: Drop, D: Disk + Drop, W: OfficeWork + Drop>(
-    rt: &HostRuntime,
-    conn: Connection<FileStore<D>>,
-    purpose: Purpose,
-    work: W,
-) -> Worked<W::Gain, Left<S, D>>
-    ensures looked { W.idle work result.gain ⊎ (purpose ≡ Purpose.Look → IsLooked result.left) }
-    ensures closed { W.idle work result.gain
-        ⊎ (IsOk result.closed → purpose ≢ Purpose.Look → IsClosed result.left) }
-    ensures ran { (image : Image) (start : S) → OpensOn image (file_state conn) → HoldsOurs image → IsCleanLeft result.left
-        → MayRun image start result.left (W.idle work result.gain) (W.step work result.gain) }
-{
-    match work_on(rt, conn, work) {
-        Ok((gain, conn)) => {
-            let (closed, left) = end_work(conn, purpose);
-            Worked { gain, closed, left }
-        }
-        Err((gain, conn)) => ended_with(gain, Left::Looked(conn)),
     }
 }

@@ -1,11 +1,19 @@
 use Rattle.std.proofs.Common.{inr}
+use Rattle.sqlite.specs.Files.{file_state}
 use Rattle.sqlite.specs.WalFiles.{image_at}
 use Rattle.dropoffice.specs.Holding.{HoldsState, ShowsHeld}
 use Rattle.dropoffice.proofs.Ended.{spared_more}
+use Rattle.dropoffice.proofs.Ends.{office_ran, works_closed, works_looked}
 use Rattle.dropoffice.proofs.opening.work_over.Goals as goal
 
+pub returns-in-Ok-clause-looked : goal.returns-in-Ok-clause-looked
+returns-in-Ok-clause-looked g c = works_looked (λ now idle. idle.0) c.work_in.ensures
+
+pub returns-in-Ok-clause-closed : goal.returns-in-Ok-clause-closed
+returns-in-Ok-clause-closed g c = works_closed (λ now idle. idle.0) c.work_in.ensures
+
 pub returns-in-Ok-clause-ran : goal.returns-in-Ok-clause-ran
-returns-in-Ok-clause-ran g c = c.work_in.ensures.ran (image_at g.S.Start) c.args.start (λ clean. (c.in-Ok.ensures.opened clean, c.in-Ok.ensures.found clean))
+returns-in-Ok-clause-ran g c = office_ran (image_at g.S.Start) c.args.start (file_state c.in-Ok.conn) c.in-Ok.ensures.opened c.in-Ok.ensures.found c.work_in.ensures
 
 pub returns-in-Err-connect-clause-ran : goal.returns-in-Err-connect-clause-ran
 returns-in-Err-connect-clause-ran g c ours =

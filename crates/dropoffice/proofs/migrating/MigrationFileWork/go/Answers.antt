@@ -1,10 +1,13 @@
+use Rattle.std.proofs.Common.{refl}
+use Rattle.std.proofs.lemmas.Bool.{false≢true}
 use Rattle.sqlite.specs.Held.{state}
 use Rattle.dropoffice.proofs.Ended.{ours_open, spares_shown, still_sees}
-use Rattle.dropoffice.proofs.migrating.migrate_over.Goals as goal
+use Rattle.dropoffice.proofs.migrating.MigrationFileWork.go.Goals as goal
 
-pub returns-in-Ok : goal.returns-in-Ok
-returns-in-Ok g c = record {
-  made = λ was clean.
+pub returns-in-Ok-clause-done : goal.returns-in-Ok-clause-done
+returns-in-Ok-clause-done g c = (
+  refl,
+  λ was clean.
       let closed = c.close.ensures in
       let begun = c.in-Ok.ensures in
       let ours = ours_open g.S.Store c.args.conn (g.met.S.Store.shut_if_dirty c.args.conn.store) was in
@@ -18,19 +21,15 @@ returns-in-Ok g c = record {
         keeps = (closed.means s).0 means;
         crash = λ t may. alone.alone t ((closed.leaves t).1 may);
         whole = closed.whole.0 alone.whole;
-      };
-  looked = tt;
-  spared = λ was. tt;
-}
+      },
+)
 
-pub returns-in-Err : goal.returns-in-Err
-returns-in-Err g c =
+pub returns-in-Err-clause-undone : goal.returns-in-Err-clause-undone
+returns-in-Err-clause-undone g c =
     let old = c.args.conn in
     let shut = g.met.S.Store.shut_if_dirty old.store in
-    record {
-      made = λ was. tt;
-      looked = still_sees g.S.Store old shut (state g.S.Store c.in-Err.conn) c.in-Err.ensures.kept;
-      spared = λ was.
-          spares_shown g.S.Store old shut (state g.S.Store c.in-Err.conn) _ (λ db is_open may. g.met.S.Store.settled old.store db is_open may)
-          (c.in-Err.ensures.spares (ours_open g.S.Store old shut was));
-    }
+    let new = state g.S.Store c.in-Err.conn in (
+      false≢true,
+      still_sees g.S.Store old shut new c.in-Err.ensures.kept,
+      λ was. spares_shown g.S.Store old shut new _ (λ db is_open may. g.met.S.Store.settled old.store db is_open may) (c.in-Err.ensures.spares (ours_open g.S.Store old shut was)),
+    )
