@@ -5,7 +5,8 @@ The code of `rt` does the work. Four things are different here:
 
 - `rt` allows each check more memory than it was ever seen to take, so few run in parallel. Here it is half as much.
 - The crates with the most work behind them come first, by the seconds in ci/seconds.txt. `rt` counts lines.
-- Several processors take a quarter more time together than one takes alone. So a check has one.
+- Several processors take a quarter more time together than one takes alone. So a check has more than one only where no other
+  check could begin on them.
 - With `--program`, Rattle's own compiler builds the program, which stays in `crates/NAME/out`. It takes half as long as LLVM, whose
   program is a tenth faster. Without, both build it at the same time, and `rt` compares what both programs write.
 
@@ -34,8 +35,10 @@ SHARE = 0.5
 SECONDS = pathlib.Path(__file__).with_name("seconds.txt")
 # The seconds for each line of a crate that is not listed there.
 PER_LINE = 0.05
-# The processors of each check.
-JOBS = 1
+# The share of a check that several processors do in parallel.
+PARALLEL = 0.5
+# The share of a check's memory that each processor more takes, as `rt` has it.
+MORE_MEMORY = 0.6
 # The share of the free memory that checks may take.
 MOST_MEMORY = 0.85
 # A task that took less than this share of its seconds was taken over from an earlier run.
@@ -150,21 +153,27 @@ class Lanes:
 
     def begin(self):
         """Begins the tasks for which there is room."""
-        for key in next_tasks(self.tasks, self.left, self.given, self.free):
-            _, _, needs, call = self.tasks[key]
+        for key, jobs in next_tasks(self.tasks, self.left, self.given, self.free):
+            while jobs > 1 and self.needs(key, jobs) > self.memory:
+                jobs -= 1
+            needs = self.needs(key, jobs)
             if self.running and needs > self.memory:
                 return
             self.left.remove(key)
-            self.free, self.memory = self.free - 1, self.memory - needs
-            self.running[self.pool.submit(call, self.given, JOBS)] = key, needs
+            self.free, self.memory = self.free - jobs, self.memory - needs
+            self.running[self.pool.submit(self.tasks[key][3], self.given, jobs)] = key, needs, jobs
+
+    def needs(self, key, jobs):
+        """The memory that the task takes with so many processors."""
+        return self.tasks[key][2] * (1 + MORE_MEMORY * (jobs - 1))
 
     def run(self):
         """Runs them all, and returns what each gave."""
         while self.left or self.running:
             self.begin()
             for it in concurrent.futures.wait(self.running, return_when=concurrent.futures.FIRST_COMPLETED).done:
-                key, needs = self.running.pop(it)
-                self.free, self.memory = self.free + 1, self.memory + needs
+                key, needs, jobs = self.running.pop(it)
+                self.free, self.memory = self.free + jobs, self.memory + needs
                 self.given[key] = it.result()
         return self.given
 
@@ -179,8 +188,10 @@ def in_order(tasks):
 
 
 def next_tasks(tasks, left, given, free):
-    """The tasks to begin now on the free processors."""
-    return [it for it in left if all(below in given for below in tasks[it][0])][:free]
+    """The tasks to begin now on the free processors, each with how many of them it has. Each has one, and the first has those that
+    are left over."""
+    ready = [it for it in left if all(below in given for below in tasks[it][0])][:free]
+    return [(it, 1 if at else 1 + free - len(ready)) for at, it in enumerate(ready)]
 
 
 def expected(tasks, lanes):
@@ -188,10 +199,10 @@ def expected(tasks, lanes):
     left, given = [it for it in in_order(tasks) if tasks[it][1]], {it for it in tasks if not tasks[it][1]}
     now, running = 0, []
     while left or running:
-        for key in next_tasks(tasks, left, given, lanes - len(running)):
+        for key, jobs in next_tasks(tasks, left, given, lanes - sum(it[2] for it in running)):
             left.remove(key)
-            heapq.heappush(running, (now + tasks[key][1], key))
-        now, key = heapq.heappop(running)
+            heapq.heappush(running, (now + tasks[key][1] * (1 - PARALLEL + PARALLEL / jobs), key, jobs))
+        now, key, _ = heapq.heappop(running)
         given.add(key)
     return now
 
