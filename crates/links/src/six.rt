@@ -6,8 +6,10 @@ ghost use Rattle.sigtext.specs.Bytes.{begins_with};
 ghost use Rattle.sigtext.specs.Target.{Param};
 ghost use Rattle.sigtext.specs.Targets.{SpellsReading};
 ghost use Rattle.sigtext.specs.Signing.{HoldsParams};
-ghost use Rattle.links.specs.WellFormed.{is_signing_name, is_other_amz_name, AreThere};
-ghost use Rattle.links.specs.SixValues.{AreRawSix, AreRightParams, AreWrongParams, HaveNames, texts_of};
+ghost use Rattle.links.specs.WellFormed.{AreThere};
+ghost use Rattle.sigtext.specs.Readable.{is_signing_name, is_other_amz_name};
+ghost use Rattle.links.specs.SixValues.{AreRawSix, AreRightParams, AreWrongParams, texts_of};
+ghost use Rattle.sigtext.specs.Readable.{HaveNames};
 
 use crate::six_values::SixValues;
 use percent_encoding::percent_decode;

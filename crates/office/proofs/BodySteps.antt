@@ -27,7 +27,7 @@ use Rattle.office.specs.declared.requests.foreseeing.Prospect.{Prospect}
 use Rattle.office.specs.declared.requests.foreseeing.Body.{Body}
 use Rattle.office.specs.Foreseeing.{AreStaged, Foresees, IsUpload}
 use Rattle.office.specs.Receiving.{StagesBody}
-use Rattle.office.specs.Readable.{IsReadable}
+use Rattle.sigtext.specs.Readable.{IsReadable}
 use Rattle.office.specs.Sessions.{HasBegunMessage}
 use Rattle.office.specs.Stepping.{IsClosed, IsExpected, LeavesOff, Steps}
 use Rattle.office.specs.declared.connections.handling.Handled.{Handled}

@@ -14,7 +14,6 @@ pub mod Interleaved
 pub mod Offices
 pub mod Places
 pub mod Premise
-pub mod Readable
 pub mod Receiving
 pub mod Repeats
 pub mod Replays

@@ -172,6 +172,14 @@ impl<K: Keeper> Keeper for Watched<K> {
         self.leave(outcome)
     }
 
+    fn stage_take(&mut self) -> Vec<u8> {
+        self.inner.stage_take()
+    }
+
+    fn stage_put(&mut self, bytes: Vec<u8>) {
+        self.inner.stage_put(bytes);
+    }
+
     fn stage_drop(&mut self) -> Result<(), KeepFault> {
         self.enter()?;
         self.drops = self.drops.saturating_add(1);

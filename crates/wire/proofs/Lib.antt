@@ -11,11 +11,14 @@ pub mod WaitingFronts
 pub mod NextMessages
 pub mod Halves
 pub mod Beginnings
+pub mod Faults
 pub mod BrokenOff
 pub mod GivenFirst
+pub mod Given
 pub mod ReadAhead
 pub mod PiecesGiven
 pub mod Ahead
+pub mod Underways
 pub mod Begins
 pub mod Changing
 pub mod Ends

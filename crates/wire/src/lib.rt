@@ -23,6 +23,7 @@ mod session;
 mod shifting;
 mod slots;
 pub mod standing;
+mod underway;
 
 pub use answer::{Answer, Reply, put_answer};
 pub use backlog::MOST_HEAD;
@@ -43,4 +44,5 @@ pub use slots::{
     fail_slot, first_free, free_slot, gather_slot, make_room_in_slot, open_slot, send_slot,
     settle_slot,
 };
-pub use standing::{Room, Standing};
+pub use standing::{Buffer, HeadBlock, Spare, Standing};
+pub use underway::{Kept, Underway};

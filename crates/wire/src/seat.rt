@@ -1,11 +1,16 @@
 //! A connection among others. Its feed is set aside between its turns.
 ghost use Rattle.std.specs.Prelude.{◌≡◌, ◌≤◌, [], IsTrue, None};
-ghost use Rattle.wire.specs.Feeds.{stood_at};
+ghost use Rattle.std.specs.Option.{ForSome};
+ghost use Rattle.wire.specs.Feeds.{given_before, stood_at};
 ghost use Rattle.wire.specs.declared.feed.Place.TheVariants as stands;
 ghost use Rattle.wire.specs.Begins.{may_begin};
+ghost use Rattle.wire.specs.Underways.{IsUnderway};
 
 use crate::session::SessionEnd;
-use crate::{Counted, Gathered, Gathering, Outbox, Room, Sending, Standing};
+use crate::standing::Buffer;
+use crate::underway::Underway;
+use crate::{Counted, Gathered, Gathering, Outbox, Sending, Standing};
+use http_server::Log;
 use std::alloc::{AllocError, Global};
 use std::io;
 use std::io::{Read, Write};
@@ -19,12 +24,18 @@ pub struct Seat<R, W> {
     pub writer: Counted<W>,
     /// Its feed, set aside.
     pub standing: Standing,
+    /// The message whose body has not come whole, if there is one.
+    pub underway: Option<Underway>,
+    /// A mark for each turn in which no message was answered and the connection went on.
+    pub waited: Log<u64, u64>,
     /// The number of its messages that were served, at most 1000.
     pub served: u64,
     /// How it ended, if it did.
     pub end: Option<SessionEnd>,
     ghost few: { served ≤ 1000 },
-    ghost begins: { end ≡ None → IsTrue (may_begin (stood_at standing)) },
+    ghost begins: { end ≡ None → underway ≡ None → IsTrue (may_begin (stood_at standing)) },
+    ghost forgot: { end ≡ None → underway ≡ None → given_before standing ≡ [] },
+    ghost goes_on: { ForSome underway (λ u. IsUnderway u standing) },
     ghost fresh: { end ≡ None → stood_at standing ≡ stands.Fresh → served ≡ 0 },
 }
 
@@ -44,6 +55,8 @@ impl<R, W> Seat<R, W> {
             reader: Counted::new(reader),
             writer: Counted::new(writer),
             standing: Standing::new(alloc),
+            underway: None,
+            waited: Log::new(),
             served: 0,
             end: None,
         }
@@ -116,7 +129,7 @@ impl<S: Read, W> Seat<Gathered<S>, W> {
 
     /// Returns the bytes that the feed read and did not take to those that were read ahead, if they came from
     /// there, and returns the buffer. Frees the memory if no bytes are ahead then.
-    pub fn give_back(&mut self) -> Option<Room>
+    pub fn give_back(&mut self) -> Option<Buffer>
         ensures gathers { Gathers ⟦<Gathered<S> as Read>⟧.remaining self.old self.new }
         ensures kept { ahead_of self.new.standing ++ ahead_in self.new.reader.inner
             ≡ ahead_of self.old.standing ++ ahead_in self.old.reader.inner }

@@ -5,7 +5,8 @@ ghost use Rattle.wire.specs.Slots.{Fails, MakesRoom, PutsBack, ReadsAhead, Sends
 ghost use Rattle.wire.specs.Seats.{IsNew};
 
 use crate::seat::Seat;
-use crate::{Gathered, Gathering, Outbox, Room, Sending};
+use crate::standing::Buffer;
+use crate::{Gathered, Gathering, Outbox, Sending};
 use std::alloc::AllocError;
 use std::io;
 use std::io::{Read, Write};
@@ -84,7 +85,7 @@ pub fn gather_slot<S: Read, W: Write>(
 pub fn settle_slot<S: Read, W: Write>(
     slots: &mut [Option<Seat<Gathered<S>, W>>],
     index: usize,
-) -> Option<Room>
+) -> Option<Buffer>
     requires { index < length slots.old }
     ensures changes { Changes ⟦<Gathered<S> as Read>⟧.remaining W.contents slots.old slots.new [] [] }
     ensures done { DoneAt ⟦<Gathered<S> as Read>⟧.remaining (λ a b. PutsBack a b result)

@@ -23,7 +23,8 @@ impl<K: Keeper> Office<K> {
         writer: &mut Counted<W>,
         clock: &mut C,
     ) -> SessionEnd
-        requires { MayBegin (place_of feed.old) }
+        requires begins { MayBegin (place_of feed.old) }
+        requires free { IsFree feed.old.backlog }
         ensures same { SameReader feed.old feed.new }
         ensures serves { (s : State) → WasKept K.Keeper self.old.keeper self.new.keeper s
             → (after : State) × IsLeft (K.means self.new.keeper) after
@@ -36,10 +37,12 @@ impl<K: Keeper> Office<K> {
         ensures unstaged { StaysUnstaged K.Keeper self.old.keeper self.new.keeper }
         ensures rest { HoldsUnless K.Keeper self.old.keeper self.new.keeper (MayGiveUp K.Keeper self.old.keeper self.new.keeper result) }
     {
+        let mut block = [0; MOST_HEAD];
         'messages: for _ in 0..MOST_MESSAGES {
-            match self.step(feed, writer, clock) {
-                None => {}
-                Some(end) => return end,
+            match self.step(feed, &mut block, writer, clock) {
+                Stepped::Done(None) => {}
+                Stepped::Done(Some(end)) => return end,
+                Stepped::Waits(_) => unreachable!(),
             }
         }
         SessionEnd::Limit

@@ -8,7 +8,7 @@ use Rattle.wire.specs.Framing.{request_of}
 use Rattle.office.specs.Answering.{is_head}
 use Rattle.office.specs.Foreseeing.{Foresees}
 use Rattle.office.specs.Premise.{IsGivenUp}
-use Rattle.office.specs.Readable.{IsReadable}
+use Rattle.sigtext.specs.Readable.{IsReadable}
 use Rattle.office.specs.Stepping.{IsExpected}
 use Rattle.office.proofs.BodySteps.{head_given_up_step}
 use Rattle.office.proofs.Handlings.{read_given_up, same_request, closed_again}
