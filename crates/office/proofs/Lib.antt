@@ -23,12 +23,12 @@ pub mod Begun
 pub mod BodySteps
 pub mod KeeperCalls
 pub mod Questions
+pub mod StagedSoFar
 pub mod Stagings
 mod Foreseen
 mod Staged
 mod Unstaged
 mod Replied
-pub mod StagedSoFar
 pub mod RunTurns
 pub mod SeatTurns
 pub mod Sitting

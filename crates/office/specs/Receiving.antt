@@ -26,7 +26,7 @@ pub record StagesBody {R K : Type 0} (remaining : R → Option (List ℕ)) (size
 -- what was given of the open body is staged, and the hasher was fed with it
 pub record HoldsPart {R K : Type 0} (k : Ghosts K) (feed : Feed R) (keeper : K) (sha : Sha) : Type 0 where
   pub staged : k.stages keeper (given_of feed)
-  pub fed : ShaHolds sha (given_of feed)
+  pub fed : ∥ ShaHolds sha (given_of feed) ∥₁
   pub octets : AreBytes (given_of feed)
 
 -- the stream broke off within the open body of size bytes

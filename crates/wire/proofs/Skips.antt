@@ -70,7 +70,7 @@ few_known (Some xs) None given n taken end few = absurd taken
 few_known (Some xs) (Some ys) given n taken end few = omega (arith, few, ap length taken, length-append given ys, ap length end)
 
 -- the bytes that were given are the first that were left
-taken_so_far : {R : Type 0} (remaining : R → Option (List ℕ)) (size : ℕ) (first here : Feed R) → HasSkipped remaining size first here
+pub taken_so_far : {R : Type 0} (remaining : R → Option (List ℕ)) (size : ℕ) (first here : Feed R) → HasSkipped remaining size first here
     → Consumes (whole_left remaining first) (left remaining here) (given_of here)
 taken_so_far remaining size first here h = consumes_waiting (whole_left remaining first) (left remaining here) (given_of here) h.kept
 
@@ -120,7 +120,7 @@ broken_given n p q known reader waits result f is at gives =
     subst (λ (x : Place). GivesPiece x known (Err f) q waits reader) at
     (subst (λ (x : Result (Piece (Bor (List ℕ))) WireFault). GivesPiece p known (part x) q waits reader) is gives)
 
-unchanged : (old new : List ℕ) (result : Result (Piece (Bor (List ℕ))) WireFault) (f : WireFault) → result ≡ Err f → GivesOn old (part result) new → new ≡ old
+pub unchanged : (old new : List ℕ) (result : Result (Piece (Bor (List ℕ))) WireFault) (f : WireFault) → result ≡ Err f → GivesOn old (part result) new → new ≡ old
 unchanged old new result f is h = subst (λ (r : Result (Piece (Bor (List ℕ))) WireFault). GivesOn old (part r) new) is h
 
 broke_off_there : {R : Type 0} (remaining : R → Option (List ℕ)) (size : ℕ) (first here next : Feed R) (f : WireFault)

@@ -39,8 +39,8 @@ impl Buffer {
     }
 }
 
-/// A block for the text of a head.
-pub type HeadBlock = Box<[u8; MOST_HEAD]>;
+/// A block for the text of a head, of `MOST_HEAD` bytes.
+pub type HeadBlock = Box<[u8; 8192]>;
 
 /// What a turn takes beside its connection: a buffer, and a block for the text of a head. Either may be
 /// missing after a turn.

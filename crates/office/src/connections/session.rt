@@ -1,9 +1,10 @@
 //! One connection: its messages are read and answered in order.
+use super::stepping::Stepped;
 use crate::clocks::Clock;
 use crate::office::Office;
 use boxes::Keeper;
 use std::io::{Read, Write};
-use wire::{Counted, Feed, SessionEnd};
+use wire::{Counted, Feed, MOST_HEAD, SessionEnd};
 
 /// The greatest number of messages on one connection.
 const MOST_MESSAGES: usize = 1000;
@@ -11,6 +12,7 @@ const MOST_MESSAGES: usize = 1000;
 impl<K: Keeper> Office<K> {
     ghost use Rattle.boxes.specs.State.{State};
     ghost use Rattle.wire.specs.Feeds.{SameReader, left, place_of, reader_of};
+    ghost use Rattle.wire.specs.Waiting.{IsFree};
     ghost use Rattle.wire.specs.Whole.{MayBegin};
     ghost use Rattle.office.specs.Connections.{MayGiveUp, Serves, TellsFaults};
     ghost use Rattle.office.specs.Premise.{HoldsUnless, IsLeft, StaysUnstaged, WasKept};

@@ -8,7 +8,7 @@ use super::handling::{Handled, send_answer};
 use super::receiving::Received;
 use crate::clocks::Clock;
 use crate::office::Office;
-use crate::requests::announced::announced;
+use crate::requests::announced::announce_head;
 use crate::requests::answering::asks_head;
 use crate::requests::foreseeing::{Body, Prospect, is_given_up, is_upload};
 use boxes::Keeper;
@@ -226,7 +226,7 @@ impl<K: Keeper> Office<K> {
             (MayHaveGivenUp K.Keeper self.old.keeper self.new.keeper result) }
         ensures free { NeverStandsBy feed.old.backlog feed.new.backlog result }
     {
-        let message = announced(opening, fields);
+        let message = announce_head(opening, fields);
         let foreseen = self.foresee(&message);
         if is_given_up(&foreseen) {
             drop(foreseen);

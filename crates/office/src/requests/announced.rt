@@ -36,7 +36,7 @@ pub(crate) fn announce<'a>(message: &Message<'a>) -> Announced<'a>
 }
 
 /// What the head of a message announced. Its fields are at the front of the array.
-pub(crate) fn announced<'a>(
+pub(crate) fn announce_head<'a>(
     opening: &Opening<'a>,
     fields: &'a [Field<'a>; MOST_FIELDS],
 ) -> Announced<'a>
