@@ -21,6 +21,7 @@ pub mod Standing
 pub mod Placing
 pub mod Begun
 pub mod BodySteps
+pub mod BodyWaits
 pub mod KeeperCalls
 pub mod Questions
 pub mod StagedSoFar

@@ -84,8 +84,8 @@ is_stream (Some p) Holds o = sym o.is
 pub brought_by : (fields : List Field) (old new reader : Option (List ℕ)) (p : Place) (x y : Came) → x ≡ y → Brings x fields old new reader p → Brings y fields old new reader p
 brought_by fields old new reader p x y is h = subst (λ (z : Came). Brings z fields old new reader p) is h
 
-pub broke_off_by : (p : Place) (old reader : Option (List ℕ)) (x y : WireFault) → x ≡ y → BreaksOff x p old reader → BreaksOff y p old reader
-broke_off_by p old reader x y is h = subst (λ (z : WireFault). BreaksOff z p old reader) is h
+pub broke_off_by : (p : Place) (old new reader : Option (List ℕ)) (q : Place) (x y : WireFault) → x ≡ y → BreaksOff x p old new reader q → BreaksOff y p old new reader q
+broke_off_by p old new reader q x y is h = subst (λ (z : WireFault). BreaksOff z p old new reader q) is h
 
 -- ---- a step and those that follow
 

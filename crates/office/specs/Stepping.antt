@@ -11,7 +11,7 @@ use Rattle.boxes.specs.State.{State}
 use Rattle.boxes.specs.declared.keep.Keeper.{Ghosts}
 use Rattle.wire.specs.Framing.{Next, Message, request_of}
 use Rattle.wire.specs.Feeds.{given_of, left, place_of, reader_of, whole_left}
-use Rattle.wire.specs.Seats.{IsBegun}
+use Rattle.wire.specs.Underways.{IsBegun}
 use Rattle.wire.specs.Waiting.{IsFree}
 use Rattle.wire.specs.Whole.{IsOpening}
 use Rattle.wire.specs.declared.backlog.Backlog.{Backlog}
