@@ -22,6 +22,7 @@ pub mod Placing
 pub mod Begun
 pub mod BodySteps
 pub mod BodyWaits
+pub mod StepWaits
 pub mod KeeperCalls
 pub mod Questions
 pub mod StagedSoFar

@@ -397,7 +397,7 @@ pub before_quiet : {K : Type 0} (k : Ghosts K) (a b : K) (s : State) (gave_up : 
 before_quiet k a b s gave_up quiet other means honest =
     record { faults = quiet.rest.counted other; open_still = λ was. quiet.rest.opened honest was other; adds = quiet.crash s means honest }
 
-before_held : {K : Type 0} (k : Ghosts K) (a b c : K) (s : State) → Before k a b s → HoldsUp k false b c → HoldsUp k false a c
+pub before_held : {K : Type 0} (k : Ghosts K) (a b c : K) (s : State) → Before k a b s → HoldsUp k false b c → HoldsUp k false a c
 before_held k a b c s x held = holds_more k a b c false (x.faults, x.open_still) held
 
 pub steps_after : {C K : Type 0} (gives : C → ℕ → C → Type 0) (p : Place) (left left' reader output output' : Option (List ℕ)) (clock clock' : C) (k : Ghosts K) (a b c : K) (s : State) (end : Option SessionEnd)

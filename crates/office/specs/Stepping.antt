@@ -123,6 +123,11 @@ StepsTo gives p known remaining feed writer writer' contents clock clock' k keep
 StepsTo gives p known remaining feed writer writer' contents clock clock' k keeper keeper' s block (stepped.Waits begun) =
     ReadsOn remaining known feed block begun × StandsBy clock clock' writer writer' k keeper keeper' s
 
+-- if a message has begun, its head has so many bytes
+abbrev pub HasHeadOf : ℕ → Stepped → Type 0
+HasHeadOf len (stepped.Waits (Some b)) = b.len ≡ len
+HasHeadOf len _ = ⊤
+
 -- the faults that a step counted; none if it waits
 abbrev pub TellsStepped : {R W : Type 0} → Stepped → Counted R → Counted R → Counted W → Counted W → Type 0
 TellsStepped (stepped.Done e) reader reader' writer writer' = TellsStep e reader reader' writer writer'

@@ -80,7 +80,7 @@ impl<K: Keeper> Office<K> {
     ghost use Rattle.office.specs.Frames.{Quiet};
     ghost use Rattle.office.specs.Handling.{Handles, MayBeGivenUp};
     ghost use Rattle.office.specs.Premise.{EndsUnstaged, HoldsUnless, StaysUnstaged, WasKept};
-    ghost use Rattle.office.specs.Stepping.{GoesOn, IsExpected, LeavesOff, MayHaveGivenUp, NeverStandsBy, StepsTo, TellsStepped};
+    ghost use Rattle.office.specs.Stepping.{GoesOn, HasHeadOf, IsExpected, LeavesOff, MayHaveGivenUp, NeverStandsBy, StepsTo, TellsStepped};
 
     // Handles a message whose body came: takes its moment and writes its answer.
     fn serve_message<W: Write, C: Clock>(
@@ -156,6 +156,7 @@ impl<K: Keeper> Office<K> {
         ensures rest { HoldsUnless K.Keeper self.old.keeper self.new.keeper
             (MayHaveGivenUp K.Keeper self.old.keeper self.new.keeper result) }
         ensures free { NeverStandsBy feed.old.backlog feed.new.backlog result }
+        ensures long { HasHeadOf len result }
     {
         let upload = is_upload(&foreseen);
         let mut sha = Sha::new();
@@ -195,8 +196,7 @@ impl<K: Keeper> Office<K> {
         }
     }
 
-    // Serves the message whose head was read. If no more bytes may be read now, the head goes to the front of
-    // the block.
+    // Serves the message whose head was read. The head goes to the front of the block.
     fn serve_head<R: Read, W: Write, C: Clock>(
         &mut self,
         feed: &mut Feed<'_, R>,
@@ -234,16 +234,12 @@ impl<K: Keeper> Office<K> {
         }
         let to_head = asks_head(&message);
         let len = opening.text.len();
-        let stepped =
-            self.serve_body(feed, foreseen, to_head, len, opening.length, writer, clock);
-        if matches!(stepped, Stepped::Waits(_)) {
-            block[..len].copy_from_slice(opening.text);
-        }
-        stepped
+        block[..len].copy_from_slice(opening.text);
+        self.serve_body(feed, foreseen, to_head, len, opening.length, writer, clock)
     }
 
-    // Reads the next message of a feed and answers it. Or tells how the session ended. If no more bytes may be
-    // read now and a message has begun, its head goes to the front of the block.
+    // Reads the next message of a feed and answers it. Or tells how the session ended. The head goes to the
+    // front of the block.
     pub(crate) fn step<R: Read, W: Write, C: Clock>(
         &mut self,
         feed: &mut Feed<'_, R>,
