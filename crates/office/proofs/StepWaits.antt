@@ -1,5 +1,6 @@
 -- Steps that may wait: what came before them, and where the head lies.
-use Rattle.std.proofs.Common.{◌≡◌, ◌∙◌, ℕ, List, Option, None, Some, ap, subst, sym, take}
+use Rattle.std.proofs.Common.{◌≡◌, ◌∙◌, ◌≤◌, ◌++◌, ℕ, List, length, Option, None, Some, ap, subst, sym, take}
+use Rattle.std.proofs.Math.Seq.{take-append_seam}
 use Rattle.std.specs.Io.KnownBytes.{Keeps, prepend_known}
 use Rattle.boxes.specs.State.{State}
 use Rattle.boxes.specs.declared.keep.Keeper.{Ghosts}
@@ -8,11 +9,12 @@ use Rattle.wire.specs.Underways.{IsBegun}
 use Rattle.wire.specs.declared.counted.Counted.{Counted}
 use Rattle.wire.specs.declared.feed.Feed.{Feed}
 use Rattle.wire.specs.declared.feed.Place.{Place}
-use Rattle.office.specs.Stepping.{HasHeadOf, ReadsOn, StandsBy, StepsTo}
+use Rattle.office.specs.Stepping.{HasHeadOf, MayHaveGivenUp, ReadsOn, StandsBy, StepsTo}
 use Rattle.office.specs.declared.connections.stepping.Begun.{Begun}
 use Rattle.office.specs.declared.connections.stepping.Stepped.{Stepped}
 use Rattle.office.specs.declared.connections.stepping.Stepped.TheVariants as stepped
 use Rattle.office.proofs.Endurance.{through_after}
+use Rattle.office.proofs.Unstaged.{some_may_later}
 use Rattle.office.proofs.SessionSteps.{Before, before_held, steps_after}
 
 -- the head lies at the front of the block
@@ -39,3 +41,12 @@ module _ {C K R W : Type 0} (gives : C → ℕ → C → Type 0) (p : Place) (kn
       steps_after gives p known (left remaining feed) (remaining (reader_of feed).inner) (contents writer.inner) (contents writer'.inner) clock clock' k a b c s e before steps
   steps_later a b c s block (stepped.Waits begun) before (r, w) =
       (r, record { told = w.told; written = w.written; left = w.left; held = before_held k a b c s before w.held; lasts = through_after before.adds w.lasts })
+
+-- a text that was copied is at the front of the block
+pub copied_front : (text block behind : List ℕ) → block ≡ text ++ behind → take (length text) block ≡ text
+copied_front text block behind is = ap (take (length text)) is ∙ take-append_seam text behind
+
+-- a step that may have given up after an earlier call may have given up over both
+pub given_up_later : {K : Type 0} (k : Ghosts K) (a b c : K) (result : Stepped) → k.faults a ≤ k.faults b → MayHaveGivenUp k b c result → MayHaveGivenUp k a c result
+given_up_later k a b c (stepped.Done e) least may = some_may_later k a b c e least may
+given_up_later k a b c (stepped.Waits begun) least may = may

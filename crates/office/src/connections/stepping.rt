@@ -41,7 +41,7 @@ pub(crate) enum Stepped {
 }
 
 // Writes the answer of a refusal that closes the connection. Returns how the session ends.
-fn close<W: Write>(refusal: Refusal, writer: &mut Counted<W>) -> SessionEnd
+pub(crate) fn close<W: Write>(refusal: Refusal, writer: &mut Counted<W>) -> SessionEnd
     ensures closed { IsClosed (W.contents writer.old.inner) (W.contents writer.new.inner) refusal result }
     ensures fault { result ≡ SessionEnd.WriteFault → Rose writer.old.faults writer.new.faults }
     ensures clean { (result ≢ SessionEnd.WriteFault) → writer.new.faults ≡ writer.old.faults }
@@ -54,7 +54,7 @@ fn close<W: Write>(refusal: Refusal, writer: &mut Counted<W>) -> SessionEnd
 }
 
 // How the session ends after a message that ended like this, if it ends.
-fn end_of(handled: Handled) -> Option<SessionEnd>
+pub(crate) fn end_of(handled: Handled) -> Option<SessionEnd>
     ensures { result ≡ end_of handled }
 {
     match handled {
@@ -83,7 +83,7 @@ impl<K: Keeper> Office<K> {
     ghost use Rattle.office.specs.Stepping.{GoesOn, HasHeadOf, IsExpected, LeavesOff, MayHaveGivenUp, NeverStandsBy, StepsTo, TellsStepped};
 
     // Handles a message whose body came: takes its moment and writes its answer.
-    fn serve_message<W: Write, C: Clock>(
+    pub(crate) fn serve_message<W: Write, C: Clock>(
         &mut self,
         foreseen: Result<Prospect<'_>, Refusal>,
         body: &Body,

@@ -1,6 +1,6 @@
 //! A message whose body has not come yet.
-ghost use Rattle.std.specs.Prelude.{◌≡◌, ◌≤◌, length, take};
-ghost use Rattle.office.specs.Announcing.{request_with};
+ghost use Rattle.std.specs.Prelude.{◌≡◌, ◌≤◌, ℕ, List, length};
+ghost use Rattle.office.specs.Announcing.{request_opened, request_with};
 ghost use Rattle.wire.specs.Messages.{request_in};
 
 use sigtext::Field;
@@ -41,11 +41,9 @@ pub(crate) fn announce_head<'a>(
     fields: &'a [Field<'a>; MOST_FIELDS],
 ) -> Announced<'a>
     requires { opening.now.head.count ≤ length fields.now }
-    ensures method { result.method.now ≡ opening.now.head.method.now }
-    ensures target { result.target.now ≡ opening.now.head.target.now }
-    ensures fields { result.fields.now ≡ take opening.now.head.count fields.now }
-    ensures has_length { result.has_length ≡ opening.now.has_length }
+    ensures request { (body : List ℕ) → request_with result body ≡ request_opened opening.now fields.now body }
     ensures length { result.length ≡ opening.now.length }
+    ensures method { result.method.now ≡ opening.now.head.method.now }
 {
     Announced {
         method: opening.head.method,

@@ -5,6 +5,7 @@ use Rattle.sigtext.specs.Fields.{header_of}
 use Rattle.sigtext.specs.Request.{Request}
 use Rattle.wire.specs.Feeds.{left, reader_of}
 use Rattle.wire.specs.Framing.{request_of}
+use Rattle.office.specs.Announcing.{request_with}
 use Rattle.office.specs.Answering.{is_head}
 use Rattle.office.specs.Foreseeing.{Foresees}
 use Rattle.office.specs.Premise.{IsGivenUp}
@@ -16,8 +17,8 @@ use Rattle.office.proofs.Holding.{holds_less, holds_then}
 use Rattle.office.specs.Frames.{Quiet}
 use Rattle.office.proofs.BodyWaits.{taken_all}
 use Rattle.office.proofs.SessionSteps.{before_quiet}
-use Rattle.office.proofs.StepWaits.{steps_in, steps_later}
-use Rattle.office.proofs.Unstaged.{some_may_later, ends_later}
+use Rattle.office.proofs.StepWaits.{copied_front, given_up_later, steps_in, steps_later}
+use Rattle.office.proofs.Unstaged.{ends_later}
 use Rattle.office.proofs.office.Office.serve_head.Goals as goal
 
 pub returns-then-is_given_up-clause-steps : goal.returns-then-is_given_up-clause-steps
@@ -27,13 +28,12 @@ returns-then-is_given_up-clause-steps g c s p known kept x =
     let method = c.args.opening.now.head.method.now in
     let target = c.args.opening.now.head.target.now in
     let headers = map header_of (take c.args.opening.now.head.count c.args.fields.now) in
-    let message : Request = record { method = method; target = target; headers = headers; has_length = c.args.opening.now.has_length; body = [] } in
-    let same : message ≡ request_of x.opens.head c.args.opening.now.has_length [] =
-    same_request c.args.opening.now.text.now f.0 x.opens.head method target headers c.args.opening.now.has_length [] f.1 x.opens.tells.is_head f.2 f.3 f.5 in
+    let same : request_with c.announce_head-message.result [] ≡ request_of x.opens.head c.args.opening.now.has_length [] =
+    c.announce_head-message.ensures.request [] ∙ same_request c.args.opening.now.text.now f.0 x.opens.head method target headers c.args.opening.now.has_length [] f.1 x.opens.tells.is_head f.2 f.3 f.5 in
     let quiet : Quiet g.K.Keeper c.args.self.now.keeper c.foresee-foreseen.new.self.keeper (IsGivenUp c.foresee-foreseen.result) = foreseen.looks.quiet in
     head_given_up_step g.R.Read.remaining c.args.feed.now g.C.Clock.now_gives p known (g.W.Write.contents c.args.writer.now.inner) (g.W.Write.contents c.close.new.writer.inner) c.args.clock.now
     g.K.Keeper c.args.self.now.keeper c.foresee-foreseen.new.self.keeper s c.args.opening.now.text.now c.args.opening.now.has_length c.args.opening.now.length x c.close.result (IsGivenUp c.foresee-foreseen.result) quiet kept
-    (subst IsReadable same (read_given_up message c.foresee-foreseen.result (c.is_given_up.ensures.0 c.if-is_given_up.true) (foreseen.readable []))) c.close.ensures.closed
+    (subst IsReadable same (read_given_up (request_with c.announce_head-message.result []) c.foresee-foreseen.result (c.is_given_up.ensures.0 c.if-is_given_up.true) (foreseen.readable []))) c.close.ensures.closed
 
 pub returns-clause-steps : goal.returns-clause-steps
 returns-clause-steps g c s p known kept x =
@@ -44,9 +44,8 @@ returns-clause-steps g c s p known kept x =
     let method = c.args.opening.now.head.method.now in
     let target = c.args.opening.now.head.target.now in
     let headers = map header_of (take c.args.opening.now.head.count c.args.fields.now) in
-    let message : List ℕ → Request = λ body. record { method = method; target = target; headers = headers; has_length = c.args.opening.now.has_length; body = body } in
-    let same : (body : List ℕ) → message body ≡ request_of x.opens.head c.args.opening.now.has_length body =
-    λ body. same_request c.args.opening.now.text.now f.0 x.opens.head method target headers c.args.opening.now.has_length body f.1 x.opens.tells.is_head f.2 f.3 f.5 in
+    let same : (body : List ℕ) → request_with c.announce_head-message.result body ≡ request_of x.opens.head c.args.opening.now.has_length body =
+    λ body. c.announce_head-message.ensures.request body ∙ same_request c.args.opening.now.text.now f.0 x.opens.head method target headers c.args.opening.now.has_length body f.1 x.opens.tells.is_head f.2 f.3 f.5 in
     let quiet : Quiet g.K.Keeper c.args.self.now.keeper mid (IsGivenUp result) = foreseen.looks.quiet in
     let other : IsGivenUp result → ⊥ = λ is. both_ways c.is_given_up.result c.if-is_given_up.false (c.is_given_up.ensures.1 is) in
     let honest = c.serve_body.ensures.rest.honest kept.is_honest in
@@ -59,7 +58,7 @@ returns-clause-steps g c s p known kept x =
       head = λ body. c.asks_head-to_head.ensures ∙ ap is_head (same body);
     } in
     steps_in g.C.Clock.now_gives p known g.R.Read.remaining c.serve_body.new.feed c.args.writer.now c.serve_body.new.writer g.W.Write.contents c.args.clock.now c.serve_body.new.clock g.K.Keeper
-    c.args.self.now.keeper c.serve_body.new.self.keeper s text _ (length text) c.serve_body.result (copied_front _ _ _ c.copy_from_slice.ensures.after) (taken_all text refl) c.serve_body.ensures.long
+    c.args.self.now.keeper c.serve_body.new.self.keeper s text _ (length text) c.serve_body.result (copied_front text _ _ c.copy_from_slice.ensures.after) (taken_all text refl) c.serve_body.ensures.long
     (steps_later g.C.Clock.now_gives p known g.R.Read.remaining c.serve_body.new.feed c.args.writer.now c.serve_body.new.writer g.W.Write.contents c.args.clock.now c.serve_body.new.clock g.K.Keeper
     c.args.self.now.keeper mid c.serve_body.new.self.keeper s text c.serve_body.result
     (before_quiet g.K.Keeper c.args.self.now.keeper mid s (IsGivenUp result) quiet other kept.means honest)
@@ -71,3 +70,7 @@ returns-then-is_given_up-clause-unstaged g c = λ none. inl (c.foresee-foreseen.
 pub returns-clause-unstaged : goal.returns-clause-unstaged
 returns-clause-unstaged g c = λ none. ends_later g.K.Keeper _ _ _ c.foresee-foreseen.ensures.looks.quiet.rest.never_less (c.serve_body.ensures.unstaged (c.foresee-foreseen.ensures.looks.staged _ none))
 
+pub returns-clause-rest : goal.returns-clause-rest
+returns-clause-rest g c =
+    holds_then (holds_less (λ is. both_ways c.is_given_up.result c.if-is_given_up.false (c.is_given_up.ensures.1 is)) c.foresee-foreseen.ensures.looks.quiet.rest)
+    (holds_less (given_up_later g.K.Keeper c.args.self.now.keeper c.foresee-foreseen.new.self.keeper c.serve_body.new.self.keeper c.serve_body.result c.foresee-foreseen.ensures.looks.quiet.rest.never_less) c.serve_body.ensures.rest)
