@@ -19,7 +19,7 @@ one_by i t = cond (nat_eq t.which i) 1 0
 
 -- how many turns the connection took
 abbrev pub took_of : Sitting → ℕ
-took_of x = x.served + over_if x.end
+took_of x = x.served + x.waited + over_if x.end
 
 -- each connection, from number i on, has as many turns as it took
 abbrev pub AllTook : List Turn → ℕ → List Sitting → Type 0

@@ -133,6 +133,7 @@ module _ {R W : Type 0} (remaining : R → Option (List ℕ)) (contents : W → 
     output = contents first.writer.inner;
     written = contents now.writer.inner;
     served = now.served;
+    waited = waits_of now;
     end = now.end;
     gave_up = gave_up;
     lost = lost;
@@ -190,7 +191,7 @@ module _ {R W : Type 0} (remaining : R → Option (List ℕ)) (contents : W → 
     pub turns_more : TakesTurn gives remaining contents (get_or ns p d) new clock' clock'' k keeper' keeper'' mid after
         → TurnsMore gives k fs ns whose clock clock' keeper keeper' s mid → TurnsMore gives k fs (set ns p new) (whose ++ p ∷ []) clock clock'' keeper keeper'' s after
     turns_more (had_ended e is same_seat same_clock same_keeper same_state) t = absurd (none_is e (sym open_there ∙ is))
-    turns_more (went_on was_open is_open served goes) t =
+    turns_more (went_on was_open is_open served kept_waits goes) t =
         let dx = sitting_of d d false None in
         let at = stands_there fs ns t.sittings p d dx lt t.are in
         let old = get_or ns p d in
@@ -203,7 +204,15 @@ module _ {R W : Type 0} (remaining : R → Option (List ℕ)) (contents : W → 
           so_far = answered_more gives k t.sittings clock clock' keeper keeper' s mid t.so_far p dx z at.within at.is was_open
               (left_of remaining new) (remaining new.reader.inner) (contents new.writer.inner) clock'' keeper'' after (subst (λ n. n ≤ most_messages) served new.few) goes;
         }
-    turns_more (ended n e was_open is served sum serves once begun) t =
+    turns_more (read_on was_open is_open served waited keeps by is) t =
+        let dx = sitting_of d d false None in
+        let at = stands_there fs ns t.sittings p d dx lt t.are in
+        let old = get_or ns p d in
+        let x = get_or t.sittings p dx in
+        let z = sitting_of at.first old x.gave_up x.lost in
+        let y = reads_on z (left_of remaining new) (remaining new.reader.inner) in
+        ?
+    turns_more (ended n e was_open is served kept_waits sum serves once begun) t =
         let dx = sitting_of d d false None in
         let at = stands_there fs ns t.sittings p d dx lt t.are in
         let old = get_or ns p d in
