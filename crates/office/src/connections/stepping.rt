@@ -263,18 +263,17 @@ impl<K: Keeper> Office<K> {
     {
         let mut text = [0; MOST_HEAD];
         let mut fields = [NO_FIELD; MOST_FIELDS];
-        let end = match read_opening(feed, &mut text, &mut fields) {
+        match read_opening(feed, &mut text, &mut fields) {
             Ok(Came::Head(opening)) => {
-                return self.serve_head(feed, &opening, &fields, block, writer, clock);
+                self.serve_head(feed, &opening, &fields, block, writer, clock)
             }
-            Ok(Came::Refused(refusal)) => close(refusal, writer),
-            Ok(Came::End) => SessionEnd::Ended,
-            Ok(Came::Truncated) => SessionEnd::Truncated,
-            Err(WireFault::Waits) => return Stepped::Waits(None),
-            Err(WireFault::Read) => SessionEnd::ReadFault,
-            Err(WireFault::Memory) => close(Refusal::TryAgain, writer),
+            Ok(Came::Refused(refusal)) => Stepped::Done(Some(close(refusal, writer))),
+            Ok(Came::End) => Stepped::Done(Some(SessionEnd::Ended)),
+            Ok(Came::Truncated) => Stepped::Done(Some(SessionEnd::Truncated)),
+            Err(WireFault::Waits) => Stepped::Waits(None),
+            Err(WireFault::Read) => Stepped::Done(Some(SessionEnd::ReadFault)),
+            Err(WireFault::Memory) => Stepped::Done(Some(close(Refusal::TryAgain, writer))),
             Err(WireFault::Write) => unreachable!(),
-        };
-        Stepped::Done(Some(end))
+        }
     }
 }

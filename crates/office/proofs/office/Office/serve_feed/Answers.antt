@@ -33,7 +33,7 @@ returns-in-Done-Some-clause-same g c = c.step.ensures.same ∙ c.messages.invari
 pub returns-in-Done-Some-clause-serves : goal.returns-in-Done-Some-clause-serves
 returns-in-Done-Some-clause-serves g c s kept =
     let x = c.messages.invariant.6 s (record { means = kept.means; is_honest = c.in-Done-Some.ensures.rest.honest kept.is_honest; sound = kept.sound }) in
-    let h = c.in-Done-Some.ensures.steps x.0 (record { means = x.1.means; is_honest = kept.is_honest; sound = x.1.sound }) in (
+    let h = rw c.in-Done-Some.field-0-is at c.in-Done-Some.ensures.steps x.0 (record { means = x.1.means; is_honest = kept.is_honest; sound = x.1.sound }) in (
       h.0,
       h.1,
       follows_end g.C.Clock.now_gives c.messages.counter (left g.R.Read.remaining c.args.feed.now) (left g.R.Read.remaining c.messages.feed) (g.W.Write.contents c.args.writer.now.inner) (g.W.Write.contents c.messages.writer.inner) c.args.clock.now c.messages.clock g.K.Keeper c.args.self.now.keeper c.messages.self.keeper s x.0 x.2
@@ -42,7 +42,7 @@ returns-in-Done-Some-clause-serves g c s kept =
 
 pub returns-in-Done-Some-clause-faults : goal.returns-in-Done-Some-clause-faults
 returns-in-Done-Some-clause-faults g c =
-    let f = c.in-Done-Some.ensures.faults in
+    let f = rw c.in-Done-Some.field-0-is at c.in-Done-Some.ensures.faults in
     record {
       read = λ is. subst (λ (n : ℕ). Rose n (reader_of c.step.new.feed).faults) c.messages.invariant.2 (f.read is);
       not_read = λ other. f.not_read other ∙ c.messages.invariant.2;
@@ -51,16 +51,19 @@ returns-in-Done-Some-clause-faults g c =
     }
 
 pub messages-preserved : goal.messages-preserved
-messages-preserved g c = (
-  (inr c.in-Done-None.ensures.goes_on.0, λ fresh. absurd (not_fresh _ c.in-Done-None.ensures.goes_on.0 fresh)),
+messages-preserved g c =
+  let on = rw c.in-Done-None.field-0-is at c.in-Done-None.ensures.goes_on in
+  let told = rw c.in-Done-None.field-0-is at c.in-Done-None.ensures.faults in
+  let rest = rw c.in-Done-None.field-0-is at c.in-Done-None.ensures.rest in (
+  (inr on.0, λ fresh. absurd (not_fresh _ on.0 fresh)),
   c.step.ensures.same ∙ c.messages.invariant.1,
-  c.in-Done-None.ensures.faults.0 ∙ c.messages.invariant.2,
-  c.in-Done-None.ensures.faults.1 ∙ c.messages.invariant.3,
-  holds_then c.messages.invariant.4 c.in-Done-None.ensures.rest,
+  told.0 ∙ c.messages.invariant.2,
+  told.1 ∙ c.messages.invariant.3,
+  holds_then c.messages.invariant.4 rest,
   unstaged_then g.K.Keeper c.args.self.now.keeper c.messages.self.keeper c.step.new.self.keeper c.messages.invariant.5 c.messages.invariant.4.never_less c.step.ensures.unstaged c.in-Done-None.ensures.rest.never_less,
   λ s kept.
       let x = c.messages.invariant.6 s (record { means = kept.means; is_honest = c.in-Done-None.ensures.rest.honest kept.is_honest; sound = kept.sound }) in
-      let h = c.in-Done-None.ensures.steps x.0 (record { means = x.1.means; is_honest = kept.is_honest; sound = x.1.sound }) in (
+      let h = rw c.in-Done-None.field-0-is at c.in-Done-None.ensures.steps x.0 (record { means = x.1.means; is_honest = kept.is_honest; sound = x.1.sound }) in (
         h.0,
         h.1,
         follows_more g.C.Clock.now_gives c.messages.counter (left g.R.Read.remaining c.args.feed.now) (left g.R.Read.remaining c.messages.feed) (g.W.Write.contents c.args.writer.now.inner) (g.W.Write.contents c.messages.writer.inner) c.args.clock.now c.messages.clock g.K.Keeper c.args.self.now.keeper c.messages.self.keeper s x.0 x.2
@@ -92,7 +95,7 @@ returns-clause-faults g c = record {
 pub returns-in-Done-Some-clause-rest : goal.returns-in-Done-Some-clause-rest
 returns-in-Done-Some-clause-rest g c =
     holds_then c.messages.invariant.4
-    (holds_less (may_later g.K.Keeper c.args.self.now.keeper c.messages.self.keeper c.step.new.self.keeper c.in-Done-Some.end c.messages.invariant.4.never_less) c.in-Done-Some.ensures.rest)
+    (holds_less (may_later g.K.Keeper c.args.self.now.keeper c.messages.self.keeper c.step.new.self.keeper c.in-Done-Some.end c.messages.invariant.4.never_less) (rw c.in-Done-Some.field-0-is at c.in-Done-Some.ensures.rest))
 
 pub returns-clause-rest : goal.returns-clause-rest
 returns-clause-rest g c = holds_less (λ none. absurd none) c.messages.invariant.4

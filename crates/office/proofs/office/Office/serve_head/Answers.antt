@@ -1,5 +1,5 @@
 use Rattle.std.proofs.lemmas.Bool.{both_ways}
-use Rattle.std.proofs.Common.{◌≡◌, ◌∙◌, List, ℕ, [], ap, length, map, refl, subst, take, inl}
+use Rattle.std.proofs.Common.{◌≡◌, ◌∙◌, ◌++◌, List, ℕ, [], ap, drop, length, map, refl, subst, sym, take, inl}
 use Rattle.std.proofs.lemmas.Grind.{common_steps}
 use Rattle.sigtext.specs.Fields.{header_of}
 use Rattle.sigtext.specs.Request.{Request}
@@ -53,12 +53,12 @@ returns-clause-steps g c s p known kept x =
     let expected : IsExpected s c.args.opening.now.length known (left g.R.Read.remaining c.args.feed.now) result c.asks_head-to_head.result text = record {
       has_length = c.args.opening.now.has_length;
       opening = x;
-      foresees = λ body len. subst (λ (r : Request). Foresees s r result) (same body) (foreseen.foresees s body (record { means = kept.means; is_honest = honest; sound = kept.sound }) len);
+      foresees = λ body len. subst (λ (r : Request). Foresees s r result) (same body) (foreseen.foresees s body (record { means = kept.means; is_honest = honest; sound = kept.sound }) (len ∙ sym c.announce_head-message.ensures.length));
       tells = other;
       head = λ body. c.asks_head-to_head.ensures ∙ ap is_head (same body);
     } in
     steps_in g.C.Clock.now_gives p known g.R.Read.remaining c.serve_body.new.feed c.args.writer.now c.serve_body.new.writer g.W.Write.contents c.args.clock.now c.serve_body.new.clock g.K.Keeper
-    c.args.self.now.keeper c.serve_body.new.self.keeper s text _ (length text) c.serve_body.result (copied_front text _ _ c.copy_from_slice.ensures.after) (taken_all text refl) c.serve_body.ensures.long
+    c.args.self.now.keeper c.serve_body.new.self.keeper s text (c.copy_from_slice.new.self ++ drop (length text) c.args.block.now) (length text) c.serve_body.result (copied_front text _ _ (ap (λ (l : List ℕ). l ++ drop (length text) c.args.block.now) c.copy_from_slice.ensures.after)) (taken_all text refl) c.serve_body.ensures.long
     (steps_later g.C.Clock.now_gives p known g.R.Read.remaining c.serve_body.new.feed c.args.writer.now c.serve_body.new.writer g.W.Write.contents c.args.clock.now c.serve_body.new.clock g.K.Keeper
     c.args.self.now.keeper mid c.serve_body.new.self.keeper s text c.serve_body.result
     (before_quiet g.K.Keeper c.args.self.now.keeper mid s (IsGivenUp result) quiet other kept.means honest)
