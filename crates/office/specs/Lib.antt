@@ -23,5 +23,7 @@ pub mod Seats
 pub mod Sent
 pub mod Sessions
 pub mod Stepping
+pub mod Resuming
+pub mod Turning
 pub mod WithoutTryAgain
 pub mod WithoutTurns

@@ -1,6 +1,9 @@
 //! Connections: one, a list of them, and those of a listener. Each message of a connection is a request.
+pub mod crowding;
 mod handling;
 mod receiving;
+mod resuming;
 pub mod run;
 pub mod session;
 mod stepping;
+mod turning;
