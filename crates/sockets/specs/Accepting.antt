@@ -1,7 +1,8 @@
 -- Connections that a listener accepted: they came and went. The turns that they were given.
-use Rattle.std.specs.Prelude.{◌≡◌, ◌<◌, ◌+◌, ◌++◌, ◌∷◌, ◌⊎◌, ◌||◌, ℕ, Bool, List, [], is_some, None, Option, Some, length, true, false}
+use Rattle.std.specs.Prelude.{◌≡◌, ◌<◌, ◌+◌, ◌++◌, ◌∷◌, ◌⊎◌, ◌||◌, ℕ, Bool, List, [], is_some, None, Option, Some, length, true, false, IfSome}
 use Rattle.std.specs.List.{AllByRecursion}
 use Rattle.std.specs.declared.io.Error.{Error}
+use Rattle.wire.specs.Crowds.{slot_at}
 use Rattle.wire.specs.Feeds.{ahead_of}
 use Rattle.wire.specs.Gathering.{HasFailed, ahead_in}
 use Rattle.wire.specs.Outgoing.{NoneFailed, WriteFailed, waits_out}
@@ -34,6 +35,10 @@ IsSettled seat = (waits_out seat.writer.inner ≡ []) ⊎ WriteFailed seat.write
 pub record IsThrough {E : Type 0} (seat : Seat (Gathered E) (Outbox E)) : Type 0 where
   pub idle : seat.end ≡ None → IsIdle seat
   pub failed : seat.end ≡ Some ReadFault → HasFailed seat.reader.inner
+
+-- no bytes wait for the peer of the connection in slot p
+abbrev pub NoneWaitsAt : {E : Type 0} → List (Option (Seat (Gathered E) (Outbox E))) → ℕ → Type 0
+NoneWaitsAt {E} slots p = IfSome (slot_at slots p) (λ seat. waits_out seat.writer.inner ≡ [])
 
 -- The connection may be closed.
 pub record MayGo {E : Type 0} (seat : Seat (Gathered E) (Outbox E)) : Type 0 where

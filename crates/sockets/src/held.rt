@@ -6,6 +6,7 @@ ghost use Rattle.wire.specs.Seats.{IsNew};
 ghost use Rattle.wire.specs.Gathering.{ahead_in};
 ghost use Rattle.sockets.specs.Accepting.{IsIdle, IsThrough, IsUntouched, is_write_fault, lacks_answers};
 
+use crate::rooms::Share;
 use std::alloc::Global;
 use std::io::{Read, Write};
 use wire::{Gathered, Outbox, Seat, SessionEnd};
@@ -38,6 +39,20 @@ pub(crate) fn waiting_len<S: Write>(slots: &[Option<Held<S>>], index: usize) -> 
     match seat_at(slots, index) {
         Some(seat) => seat.writer.inner.waiting().len(),
         None => 0,
+    }
+}
+
+/// What the body of the connection in the slot takes of the shared memory.
+pub(crate) fn share_at<S: Read>(slots: &[Option<Held<S>>], index: usize) -> Share {
+    let Some(seat) = seat_at(slots, index) else {
+        return Share::NONE;
+    };
+    match (seat.kept(), seat.to_come()) {
+        (Some(kept), Some(rest)) => Share {
+            held: kept.len(),
+            rest,
+        },
+        _ => Share::NONE,
     }
 }
 

@@ -43,7 +43,7 @@ pub use seat::Seat;
 pub use sending::send;
 pub use session::SessionEnd;
 pub use slots::{
-    fail_slot, first_free, free_slot, gather_slot, make_room_in_slot, open_slot, send_slot,
+    fail_slot, first_free, free_slot, gather_slot, open_slot, send_slot,
     settle_slot,
 };
 pub use standing::{Buffer, HeadBlock, Spare, Standing};

@@ -6,6 +6,7 @@ ghost use Rattle.wire.specs.declared.feed.Place.TheVariants as stands;
 ghost use Rattle.wire.specs.Begins.{may_begin};
 ghost use Rattle.wire.specs.Underways.{IsUnderway};
 
+use crate::feed::Place;
 use crate::session::SessionEnd;
 use crate::standing::Buffer;
 use crate::underway::Underway;
@@ -76,6 +77,25 @@ impl<R, W> Seat<R, W> {
         self.served
     }
 
+    /// How many bytes of the body of the message under way are still to come, if one is.
+    pub fn to_come(&self) -> Option<usize>
+        ensures { result ≡ option_map (λ u. u.size - length (given_before self.now.standing)) self.now.underway }
+    {
+        self.underway.as_ref()?;
+        match self.standing.place() {
+            Place::Body(left) => Some(left),
+            _ => unreachable!(),
+        }
+    }
+
+    /// The bytes of the body of the message under way that are kept, if it is one to be kept.
+    pub fn kept(&self) -> Option<&[u8]>
+    {
+        let underway = self.underway.as_ref()?;
+        let kept = underway.kept.as_ref()?;
+        Some(&kept.bytes)
+    }
+
     /// The bytes that the feed read and did not take, while they wait in a buffer of its own.
     pub fn ahead(&self) -> &[u8]
         ensures { result.now ≡ ahead_of self.now.standing }
@@ -90,28 +110,17 @@ impl<S: Read, W> Seat<Gathered<S>, W> {
     ghost use Rattle.wire.specs.Feeds.{ahead_of};
     ghost use Rattle.wire.specs.Seats.{Gathers};
 
-    /// Reads ahead once, through the buffer, without waiting. The error means that memory was refused;
-    /// nothing was read then.
-    pub fn gather(&mut self, buf: &mut [u8]) -> Result<Gathering, AllocError>
+    /// Reads ahead once, at most so many bytes, without waiting. The error means that memory was refused; nothing
+    /// was read then.
+    pub fn gather(&mut self, most: usize) -> Result<Gathering, AllocError>
         ensures gathers { Gathers ⟦<Gathered<S> as Read>⟧.remaining self.old self.new }
         ensures standing { self.new.standing ≡ self.old.standing }
         ensures told { ReadsAhead S.remaining self.old.reader.inner self.new.reader.inner result }
         ensures most { length (ahead_in self.new.reader.inner)
-            ≤ length (ahead_in self.old.reader.inner) + length buf.old }
-        ensures room { HasRoomFor (length buf.old) self.old.reader.inner → IsOk result }
+            ≤ length (ahead_in self.old.reader.inner) + most }
+        ensures room { HasRoomFor most self.old.reader.inner → IsOk result }
     {
-        self.reader.inner.gather(buf)
-    }
-
-    /// Takes memory to read n more bytes ahead. The error means that memory was refused.
-    pub fn make_room(&mut self, n: usize) -> Result<(), AllocError>
-        ensures gathers { Gathers ⟦<Gathered<S> as Read>⟧.remaining self.old self.new }
-        ensures standing { self.new.standing ≡ self.old.standing }
-        ensures ahead { ahead_in self.new.reader.inner ≡ ahead_in self.old.reader.inner }
-        ensures room { OnOk result (HasRoomFor n self.new.reader.inner) }
-        ensures fault { KeepsFault self.old.reader.inner self.new.reader.inner }
-    {
-        self.reader.inner.make_room(n)
+        self.reader.inner.gather(most)
     }
 
     /// Makes each read fail with this error, once the bytes that were read ahead are given. An earlier error

@@ -61,6 +61,17 @@ impl Spare {
         }
     }
 
+    /// Takes over what the other one has.
+    pub fn take_over(&mut self, other: Spare) {
+        let Spare { buffer, text } = other;
+        if buffer.is_some() {
+            self.buffer = buffer;
+        }
+        if text.is_some() {
+            self.text = text;
+        }
+    }
+
     /// Takes memory for what is missing. The error means that memory was refused.
     pub fn fill(&mut self, alloc: Global) -> Result<(), AllocError> {
         if self.buffer.is_none() {
