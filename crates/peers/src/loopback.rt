@@ -18,6 +18,7 @@ fn limits(connections: u64, open: usize) -> Limits {
         connections,
         patience: Some(Duration::from_secs(1)),
         open,
+        room: 64 << 20,
     }
 }
 
