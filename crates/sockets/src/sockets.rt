@@ -84,18 +84,16 @@ impl<R: time::Clock, L: Listener, S: Start<L::Stream, L::End>> Crowd<
     {
         let mut outcome = Outcome::Turned(spare);
         'actions: for _ in 0..u64::MAX {
-            outcome = match self.book.next(slots, outcome) {
+            let action = match self.book.next(slots, outcome) {
                 Action::Turn(due) if self.turns > 0 && may_turn(slots, due.index) => {
                     self.turns -= 1;
                     return Some(due);
                 }
-                Action::Turn(due) if self.turns > 0 => {
-                    let index = due.index;
-                    self.gate.act(slots, Action::Send { index }, self.book.alloc)
-                }
+                Action::Turn(due) if self.turns > 0 => Action::Send { index: due.index },
                 Action::Turn(_) | Action::Over => return None,
-                action => self.gate.act(slots, action, self.book.alloc),
+                action => action,
             };
+            outcome = self.gate.act(slots, action, self.book.alloc);
         }
         None
     }

@@ -51,13 +51,16 @@ fn read_behind<S: Read>(bytes: &mut Vec<u8>, most: usize, reader: &mut S) -> io:
     if bytes.resize(len + most, 0).is_err() {
         unreachable!();
     }
-    let read = reader.read(&mut bytes[len..]);
-    let came = match read {
-        Ok(n) => n,
-        Err(_) => 0,
-    };
-    bytes.truncate(len + came);
-    read
+    match reader.read(&mut bytes[len..]) {
+        Ok(n) => {
+            bytes.truncate(len + n);
+            Ok(n)
+        }
+        Err(error) => {
+            bytes.truncate(len);
+            Err(error)
+        }
+    }
 }
 
 impl<S: Read> Gathered<S> {

@@ -1,5 +1,5 @@
 //! A connection among others. Its feed is set aside between its turns.
-ghost use Rattle.std.specs.Prelude.{◌≡◌, ◌≤◌, [], IsTrue, None};
+ghost use Rattle.std.specs.Prelude.{◌≡◌, ◌≤◌, ◌-◌, [], IsTrue, None, length, option_map};
 ghost use Rattle.std.specs.Option.{ForSome};
 ghost use Rattle.wire.specs.Feeds.{given_before, stood_at};
 ghost use Rattle.wire.specs.declared.feed.Place.TheVariants as stands;
@@ -105,7 +105,7 @@ impl<R, W> Seat<R, W> {
 }
 
 impl<S: Read, W> Seat<Gathered<S>, W> {
-    ghost use Rattle.std.specs.Prelude.{◌+◌, ◌++◌, length, IsOk, IsSome, OnOk};
+    ghost use Rattle.std.specs.Prelude.{◌+◌, ◌++◌, IsOk, IsSome};
     ghost use Rattle.wire.specs.Gathering.{Gathers as ReadsAhead, HasFailed, HasRoomFor, KeepsFault, ahead_in};
     ghost use Rattle.wire.specs.Feeds.{ahead_of};
     ghost use Rattle.wire.specs.Seats.{Gathers};

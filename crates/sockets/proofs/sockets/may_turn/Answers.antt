@@ -2,10 +2,10 @@ use Rattle.std.proofs.Common.{◌<◌, None, length, ◌∙◌, sym, ap, arith}
 use Rattle.std.specs.Prelude.{not}
 use Rattle.std.proofs.lemmas.List.{get_or_default}
 use Rattle.wire.proofs.Ends.{none_of}
-use Rattle.sockets.proofs.sockets.is_open_at.Goals as goal
+use Rattle.sockets.proofs.sockets.may_turn.Goals as goal
 
-pub returns-in-Some : goal.returns-in-Some
-returns-in-Some g c is =
+pub returns-in-Some-clause-is_open : goal.returns-in-Some-clause-is_open
+returns-in-Some-clause-is_open g c is =
     let within : c.args.index < length c.args.slots.now = omega (arith, c.if-index-slots.false) in (
       within,
       c.in-Some.seat,

@@ -1,7 +1,7 @@
 use Rattle.std.proofs.Common.{inl, refl, arith}
 use Rattle.std.specs.Prelude.{length}
 use Rattle.sockets.proofs.Moved.{moves_none, moves_still}
-use Rattle.sockets.proofs.deeds.Gate+L+L+Stream.work.Goals as goal
+use Rattle.sockets.proofs.acting.Gate+L+L+Stream.act_on_slot.Goals as goal
 
 pub returns-then-index-slots-clause-moves : goal.returns-then-index-slots-clause-moves
 returns-then-index-slots-clause-moves g c = moves_none _ _ _ _ c.args.self.now c.args.slots.now

@@ -2,7 +2,7 @@ use Rattle.std.proofs.Common.{None, ◌∙◌, sym, arith}
 use Rattle.std.proofs.lemmas.Bool.{both_ways}
 use Rattle.std.proofs.lemmas.List.{get_or_default}
 use Rattle.sockets.proofs.Slotted.{if_there}
-use Rattle.sockets.proofs.deeds.is_through_at.Goals as goal
+use Rattle.sockets.proofs.acting.is_through_at.Goals as goal
 
 pub returns-in-Some-clause-told : goal.returns-in-Some-clause-told
 returns-in-Some-clause-told g c through =

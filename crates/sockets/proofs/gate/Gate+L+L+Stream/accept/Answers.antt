@@ -4,7 +4,7 @@ use Rattle.std.proofs.lemmas.List.{append-nil}
 use Rattle.wire.specs.Crowds.{those_of}
 use Rattle.sockets.specs.Listening.{accepted}
 use Rattle.sockets.proofs.Moved.{accepts_one, misses_one, none_is, passes_none, passes_still, refuses_one}
-use Rattle.sockets.proofs.gate.Gate+L+L+Stream.call.Goals as goal
+use Rattle.sockets.proofs.gate.Gate+L+L+Stream.accept.Goals as goal
 
 pub returns-then-is_some : goal.returns-then-is_some
 returns-then-is_some g c = record { passes = passes_none _ _ c.args.self.now; told = (refl, refl, λ log is. subst (g.L.Listener.told c.args.self.now.listener) (sym (append-nil log)) is) }

@@ -2,8 +2,8 @@ use Rattle.std.proofs.Common.{inl, inr, refl, arith}
 use Rattle.sockets.proofs.Freed.{no_more}
 use Rattle.sockets.proofs.Freed.{sent_free, sent_length, sent_may_go, sent_waits}
 use Rattle.sockets.proofs.Moved.{moves_none, moves_still, moves_then}
-use Rattle.sockets.proofs.deeds.Gate+L+L+Stream.let_go.Goals as goal
-use Rattle.sockets.proofs.deeds.Gate+L+L+Stream.let_go.Goals.{then-not-may_go-via-then-not-may_go, then-not-may_go-via-else-not-may_go+then-not-is_through_at}
+use Rattle.sockets.proofs.acting.Gate+L+L+Stream.let_go.Goals as goal
+use Rattle.sockets.proofs.acting.Gate+L+L+Stream.let_go.Goals.{then-not-may_go-via-then-not-may_go, then-not-may_go-via-else-not-may_go+then-not-is_through_at}
 
 pub returns-then-not-may_go-clause-moves : goal.returns-then-not-may_go-clause-moves
 returns-then-not-may_go-clause-moves g c = moves_none _ _ _ _ c.args.self.now c.args.slots.now
