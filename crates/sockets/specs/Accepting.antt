@@ -14,8 +14,10 @@ use Rattle.wire.specs.declared.session.SessionEnd.{SessionEnd}
 use Rattle.wire.specs.declared.session.SessionEnd.TheVariants.{Ended, Truncated, Refused, Limit, ReadFault, WriteFault}
 use Rattle.sockets.specs.Listening.{Event, IsWant, accepted, closed, missed, opened, unready}
 
--- no bytes of the connection are ahead or waiting, and no read has failed
+-- the connection is between two messages: no message is under way, no bytes are ahead or waiting, and no read
+-- has failed
 pub record IsIdle {E : Type 0} (seat : Seat (Gathered E) (Outbox E)) : Type 0 where
+  pub between : seat.underway ≡ None
   pub untaken : ahead_of seat.standing ≡ []
   pub unread : ahead_in seat.reader.inner ≡ []
   pub unsent : waits_out seat.writer.inner ≡ []

@@ -56,13 +56,14 @@ pub(crate) fn share_at<S: Read>(slots: &[Option<Held<S>>], index: usize) -> Shar
     }
 }
 
-// Whether no bytes are ahead or waiting, and no read has failed.
+// Whether the connection is between two messages: none is under way, no bytes are ahead or waiting, and no read
+// has failed.
 fn is_idle<S: Read + Write>(seat: &Held<S>) -> bool
     ensures { IsTrue result ↔ IsIdle seat.now }
 {
     let reader = &seat.reader.inner;
     let is_read = seat.ahead().is_empty() && reader.ahead().is_empty() && !reader.has_failed();
-    is_read && seat.writer.inner.waiting().is_empty()
+    seat.underway.is_none() && is_read && seat.writer.inner.waiting().is_empty()
 }
 
 /// Whether the connection is through: it is idle or has ended and, if it ended by a failed read, its reader
