@@ -39,7 +39,8 @@ impl Pieces {
     pub fn into_bytes(self) -> Vec<u8>
         ensures { result.items ≡ held self }
     {
-        self.bytes
+        let Pieces { bytes } = self;
+        bytes
     }
 
     /// The number of bytes.
