@@ -17,6 +17,7 @@ pub mod GivenFirst
 pub mod Given
 pub mod ReadAhead
 pub mod PiecesGiven
+pub mod Resized
 pub mod Ahead
 pub mod Underways
 pub mod Begins

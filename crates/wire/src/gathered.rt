@@ -36,6 +36,19 @@ pub enum Gathering {
     Failed,
 }
 
+// Reads once into the buffer, from index `at` on. Returns how many bytes came.
+fn read_from<S: Read>(bytes: &mut [u8], at: usize, reader: &mut S) -> io::Result<usize>
+    requires { at ≤ length bytes.old }
+    ensures came { IfOk result (λ n. (came : List ℕ) × (length came ≡ n) × (at + n ≤ length bytes.new)
+        × (take (at + n) bytes.new ≡ take at bytes.old ++ came)
+        × Consumes (S.remaining reader.old) (S.remaining reader.new) came) }
+    ensures end { IfOk result (λ n. n ≡ 0 → at < length bytes.old → IsAtEnd (S.remaining reader.new)) }
+    ensures kept { IfErr result (λ e. (take at bytes.new ≡ take at bytes.old)
+        × Keeps (S.remaining reader.old) (S.remaining reader.new)) }
+{
+    reader.read(&mut bytes[at..])
+}
+
 // Reads once, at most so many bytes, and appends those that came. There is memory for them. Returns how many
 // came.
 fn read_behind<S: Read>(bytes: &mut Vec<u8>, most: usize, reader: &mut S) -> io::Result<usize>
@@ -51,7 +64,7 @@ fn read_behind<S: Read>(bytes: &mut Vec<u8>, most: usize, reader: &mut S) -> io:
     if bytes.resize(len + most, 0).is_err() {
         unreachable!();
     }
-    match reader.read(&mut bytes[len..]) {
+    match read_from(bytes, len, reader) {
         Ok(n) => {
             bytes.truncate(len + n);
             Ok(n)

@@ -81,7 +81,9 @@ impl<R, W> Seat<R, W> {
     pub fn to_come(&self) -> Option<usize>
         ensures { result ≡ option_map (λ u. u.size - length (given_before self.now.standing)) self.now.underway }
     {
-        self.underway.as_ref()?;
+        let Some(_) = &self.underway else {
+            return None;
+        };
         match self.standing.place() {
             Place::Body(left) => Some(left),
             _ => unreachable!(),
