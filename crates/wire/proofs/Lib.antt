@@ -24,3 +24,4 @@ pub mod Changing
 pub mod Ends
 pub mod Standings
 pub mod Ties
+pub mod WholeHeads
