@@ -1,11 +1,10 @@
 -- A whole head breaks no rule, and is read again as before.
-use Rattle.std.proofs.Common.{◌≡◌, ◌≤◌, ℕ, Bool, List, [], ◌++◌, length, take, drop, arith, sym, ap, subst, ◌∙◌, take-append-drop, codes}
+use Rattle.std.proofs.Common.{◌≡◌, ℕ, Bool, List, [], ◌++◌, take, drop, arith, sym, ap, subst, ◌∙◌, take-append-drop, codes}
 use denote.Struct.Props.{props}
 use Rattle.std.proofs.Math.Logic.{∥∥₁_elim}
 use Rattle.std.proofs.lemmas.List.{append-nil}
 use Rattle.httparse.specs.Grammar.{RequestHead}
 use Rattle.httparse.proofs.GrammarLemmas.{request_unique}
-use Rattle.sigtext.specs.Limits.{most_body, most_head}
 use Rattle.sigtext.specs.SignedHeaders.{named}
 use Rattle.sigtext.specs.declared.refusal.Refusal.{Refusal}
 use Rattle.wire.specs.Feeding.{Opens}
