@@ -1,5 +1,5 @@
 -- What a fault of reading tells.
-use Rattle.std.proofs.Common.{◌≡◌, ℕ, List, Option, Result, Err, inl, inr, subst, sym}
+use Rattle.std.proofs.Common.{◌≡◌, ℕ, List, Option, Err, inl, inr, subst, sym}
 use Rattle.std.specs.Io.KnownBytes.{Keeps, prepend_known}
 use Rattle.sigtext.specs.Counts.{Rose}
 use Rattle.wire.specs.Feeding.{AwaitsHead, CountsReads, Finds}

@@ -25,3 +25,4 @@ pub mod Changing
 pub mod Ends
 pub mod Standings
 pub mod Ties
+pub mod WholeHeads

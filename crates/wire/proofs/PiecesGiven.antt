@@ -7,7 +7,6 @@ use Rattle.sigtext.specs.declared.refusal.Refusal.TheVariants as rule
 use Rattle.wire.specs.Feeding.{Bytes, Done, Lacking, GivesPiece, stands_after}
 use Rattle.wire.specs.Waiting.{IsOfReading}
 use Rattle.wire.specs.declared.fault.WireFault.{WireFault}
-use Rattle.wire.specs.declared.fault.WireFault.TheVariants as fault
 use Rattle.wire.specs.declared.feed.Place.{Place}
 use Rattle.wire.specs.declared.feed.Place.TheVariants as place
 
