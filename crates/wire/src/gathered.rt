@@ -46,7 +46,10 @@ fn read_from<S: Read>(bytes: &mut [u8], at: usize, reader: &mut S) -> io::Result
     ensures kept { IfErr result (λ e. (take at bytes.new ≡ take at bytes.old)
         × Keeps (S.remaining reader.old) (S.remaining reader.new)) }
 {
-    reader.read(&mut bytes[at..])
+    match reader.read(&mut bytes[at..]) {
+        Ok(n) => Ok(n),
+        Err(error) => Err(error),
+    }
 }
 
 // Reads once, at most so many bytes, and appends those that came. There is memory for them. Returns how many

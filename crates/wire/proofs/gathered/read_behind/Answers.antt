@@ -38,4 +38,4 @@ returns-in-Err-clause-kept g c =
     let at = c.len-len.ensures ∙ c.args.bytes.now.ok.0 in
     let front = longer_front c.resize.result len c.args.most c.args.bytes.now.items vec.items _ at c.resize.ensures.items in
     let items = with_items_is vec ys (omega (arith, c.read_from.auto.bytes, ap length value, vec.ok.0)) in
-    (c.truncate.ensures.items ∙ (ap (take len) items ∙ (c.in-Err.ensures.kept.0 ∙ (ap (take len) value ∙ front))), c.in-Err.ensures.kept.1)
+    (c.truncate-in-Err.ensures.items ∙ (ap (take len) items ∙ (c.in-Err.ensures.kept.0 ∙ (ap (take len) value ∙ front))), c.in-Err.ensures.kept.1)

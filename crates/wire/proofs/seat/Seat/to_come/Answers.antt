@@ -1,4 +1,4 @@
-use Rattle.std.proofs.Common.{◌≡◌, ◌∙◌, Option, Some, subst}
+use Rattle.std.proofs.Common.{◌≡◌, ◌∙◌, Option, Some, refl, subst}
 use Rattle.std.specs.Option.{ForSome}
 use Rattle.wire.specs.Underways.{IsUnderway}
 use Rattle.wire.specs.declared.standing.Standing.{Standing}
@@ -6,7 +6,7 @@ use Rattle.wire.specs.declared.underway.Underway.{Underway}
 use Rattle.wire.proofs.seat.Seat.to_come.Goals as goal
 
 begun : (o : Option Underway) (u : Underway) (standing : Standing) → o ≡ Some u → ForSome o (λ u. IsUnderway u standing) → IsUnderway u standing
-begun o u standing is all = (subst (λ o. ForSome o (λ u. IsUnderway u standing)) is all) u
+begun o u standing is all = (subst (λ o. ForSome o (λ u. IsUnderway u standing)) is all) u refl
 
 pub unreachable-requires : goal.unreachable-requires
 unreachable-requires g c =
