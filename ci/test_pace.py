@@ -50,6 +50,11 @@ def at_pace(connect, message):
         return peer.take(), time.monotonic() - begun
 
 
+def number_of(found):
+    """The number of the receipt in an answer, or 0."""
+    return int((re.search(rb"receipt (\d+) ", found) or [b"", b"0"])[1])
+
+
 def status_of(process, name):
     """An amount of the process in bytes: `VmRSS`, or its peak `VmHWM`."""
     text = pathlib.Path(f"/proc/{process.pid}/status").read_text()
@@ -62,11 +67,12 @@ def small_requests(server, date, is_over, check):
     with Peer(server.connect) as peer:
         while not is_over.is_set():
             begun = time.monotonic()
-            found = peer.ask(put(b"/in/small", data + b"%d" % len(told), date=date))
-            number = int(re.search(rb"receipt (\d+) ", found)[1])
-            check("small: the receipt", difference(found, receipt(number, data + b"%d" % len(told))))
+            path = b"/in/small%d" % len(told)
+            found = peer.ask(put(path, data, date=date))
+            number = number_of(found)
+            check("small: the receipt", difference(found, receipt(number, data)))
             put_took, begun = time.monotonic() - begun, time.monotonic()
-            check("small: the file", difference(peer.ask(get(b"/in/small", date=date)), fetched(number, data + b"%d" % len(told))))
+            check("small: the file", difference(peer.ask(get(path, date=date)), fetched(number, data)))
             told.append(number)
             slowest = max(slowest, put_took, time.monotonic() - begun)
             time.sleep(0.2)
@@ -83,7 +89,7 @@ def test_pace(drop, check):
 
     def honest(number):
         found, took = at_pace(server.connect, put(b"/in/%d" % number, files[number], date=date))
-        told = int((re.search(rb"receipt (\d+) ", found) or [b"", b"0"])[1])
+        told = number_of(found)
         check(f"pace: file {number}", difference(found, receipt(told, files[number])))
         check(f"pace: file {number} in time", f"after {took:.1f} s" if took > SIZE / PACE + LATE else None)
         return told

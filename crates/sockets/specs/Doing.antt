@@ -39,8 +39,8 @@ ActsOnSlot remaining contents left given gone action.Accept outcome.Passed old n
 ActsOnSlot remaining contents left given gone action.LetIn outcome.Passed old new = new ≡ old
 ActsOnSlot remaining contents left given gone (action.Turn due) outcome.Passed old new = new ≡ old
 ActsOnSlot remaining contents left given gone action.Over outcome.Passed old new = new ≡ old
-ActsOnSlot remaining contents left given gone (action.Gather p n) (outcome.Gathered q gathering is_full) old new =
-    (q ≡ p) × DoneAt left (λ a b. ReadsAsMuch remaining n a b gathering is_full) (gathering ≡ Ok gathering.Ended) old new p
+ActsOnSlot remaining contents left given gone (action.Gather p n) (outcome.Gathered q came is_full) old new =
+    (q ≡ p) × DoneAt left (λ a b. ReadsAsMuch remaining n a b came is_full) (came ≡ Ok gathering.Ended) old new p
 ActsOnSlot remaining contents left given gone (action.Gather p n) (outcome.Stayed q) old new = (q ≡ p) × (new ≡ old) × (length old ≤ p)
 ActsOnSlot remaining contents left given gone (action.Settle p) (outcome.Settled q buffer) old new = (q ≡ p) × DoneAt left (λ a b. PutsBack a b buffer) (IsNone buffer) old new p
 ActsOnSlot remaining contents left given gone (action.Settle p) (outcome.Stayed q) old new = (q ≡ p) × (new ≡ old) × (length old ≤ p)

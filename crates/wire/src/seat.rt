@@ -1,5 +1,5 @@
 //! A connection among others. Its feed is set aside between its turns.
-ghost use Rattle.std.specs.Prelude.{◌≡◌, ◌≤◌, ◌-◌, [], IsTrue, None, length, option_map};
+ghost use Rattle.std.specs.Prelude.{◌≡◌, ◌≤◌, ◌-◌, [], IfSome, IsTrue, None, length, option_map};
 ghost use Rattle.std.specs.Option.{ForSome};
 ghost use Rattle.wire.specs.Feeds.{given_before, stood_at};
 ghost use Rattle.wire.specs.declared.feed.Place.TheVariants as stands;
@@ -92,10 +92,15 @@ impl<R, W> Seat<R, W> {
 
     /// The bytes of the body of the message under way that are kept, if it is one to be kept.
     pub fn kept(&self) -> Option<&[u8]>
+        ensures { IfSome result (λ bytes. bytes.now ≡ given_before self.now.standing) }
     {
-        let underway = self.underway.as_ref()?;
-        let kept = underway.kept.as_ref()?;
-        Some(&kept.bytes)
+        let Some(underway) = &self.underway else {
+            return None;
+        };
+        match &underway.kept {
+            Some(kept) => Some(&kept.bytes),
+            None => None,
+        }
     }
 
     /// The bytes that the feed read and did not take, while they wait in a buffer of its own.
