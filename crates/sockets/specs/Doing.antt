@@ -35,8 +35,6 @@ pub record ReadsAsMuch {S W E : Type 0} (remaining : S → Option (List ℕ)) (n
 abbrev pub ActsOnSlot : {E : Type 0} → (E → Option (List ℕ)) → (E → Option (List ℕ)) → (Gathered E → Option (List ℕ)) → (Outbox E → Option (List ℕ)) → ℕ → Action → Outcome
     → List (Option (Seat (Gathered E) (Outbox E))) → List (Option (Seat (Gathered E) (Outbox E))) → Type 0
 ActsOnSlot remaining contents left given gone action.Pass outcome.Passed old new = new ≡ old
-ActsOnSlot remaining contents left given gone action.Accept outcome.Passed old new = new ≡ old
-ActsOnSlot remaining contents left given gone action.LetIn outcome.Passed old new = new ≡ old
 ActsOnSlot remaining contents left given gone (action.Turn due) outcome.Passed old new = new ≡ old
 ActsOnSlot remaining contents left given gone action.Over outcome.Passed old new = new ≡ old
 ActsOnSlot remaining contents left given gone (action.Gather p n) (outcome.Gathered q came is_full) old new =

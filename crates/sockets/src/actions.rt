@@ -28,20 +28,6 @@ pub(crate) enum Action {
     Over,
 }
 
-impl Action {
-    /// The slot to whose connection the action is done, if it is done to one.
-    pub(crate) fn index(&self) -> Option<usize> {
-        match self {
-            Action::Gather { index, .. }
-            | Action::Settle { index }
-            | Action::Fail { index, .. }
-            | Action::Send { index }
-            | Action::Free { index } => Some(*index),
-            _ => None,
-        }
-    }
-}
-
 /// What came of an action.
 #[derive(Drop)]
 pub(crate) enum Outcome {

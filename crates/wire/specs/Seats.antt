@@ -21,6 +21,7 @@ pub record IsNew {R W : Type 0} (seat : Seat R W) : Type 0 where
   pub none : seat.served ≡ 0
   pub open_still : seat.end ≡ None
   pub unwaited : seat.waited.items ≡ []
+  pub unbegun : seat.underway ≡ None
 
 -- Bytes of the connection were read ahead or put back. Nothing else was done.
 pub record Gathers {R W : Type 0} (remaining : R → Option (List ℕ)) (old new : Seat R W) : Type 0 where
