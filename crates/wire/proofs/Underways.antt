@@ -1,5 +1,5 @@
 -- Messages whose bodies have not come whole.
-use Rattle.std.proofs.Common.{◌≡◌, ◌∙◌, ◌-◌, ◌≤◌, ℕ, List, Option, ap, subst, sym, length}
+use Rattle.std.proofs.Common.{◌≡◌, ◌∙◌, ◌-◌, ◌≤◌, ℕ, List, Option, ap, refl, subst, sym, length}
 use Rattle.std.specs.Option.{ForSome}
 use Rattle.std.specs.Io.KnownBytes.{Keeps, prepend_known}
 use Rattle.wire.specs.Feeds.{given_before, stood_at}
@@ -8,6 +8,10 @@ use Rattle.wire.specs.declared.feed.Place.TheVariants as place
 use Rattle.wire.specs.declared.standing.Standing.{Standing}
 use Rattle.wire.specs.declared.underway.Underway.{Underway}
 use Rattle.wire.proofs.Backlogs.{prepend-kept}
+
+-- what holds for some value holds for the one that is there
+pub some_of : {X : Type 0} (P : X → Type 0) (o : Option X) (x : X) → o ≡ Some x → ForSome o P → P x
+some_of P o x is all = (subst (λ o. ForSome o P) is all) x refl
 
 -- bytes that were kept are kept behind others
 pub kept_behind : (a b : List ℕ) (r s : Option (List ℕ)) → Keeps r s → Keeps (prepend_known a (prepend_known b r)) (prepend_known a (prepend_known b s))
