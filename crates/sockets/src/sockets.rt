@@ -65,7 +65,8 @@ impl<R: time::Clock, L: Listener, S: Start<L::Stream, L::End>> Crowd<
     Gathered<L::End>,
     Outbox<L::End>,
 > for Sockets<'_, R, L, S> {
-    ghost use Rattle.std.specs.Prelude.{IfSome, ⊤};
+    ghost use Rattle.std.specs.Prelude.{◌≡◌, [], ⊤};
+    ghost use Rattle.wire.specs.Outgoing.{waits_out};
     ghost use Rattle.sockets.specs.Accepting.{HasGiven};
     ghost use Rattle.sockets.specs.Moving.{HasPassed};
 
@@ -73,15 +74,15 @@ impl<R: time::Clock, L: Listener, S: Start<L::Stream, L::End>> Crowd<
 
     ghost gave = { λ s _ given. HasGiven s.gate.came s.turns given };
 
+    ghost settled = { λ seat. waits_out seat.writer.inner ≡ [] };
+
     ghost over = { λ _. ⊤ };
 
     ghost turns = { λ s. s.turns };
 
     ghost few = { λ s. s.few };
 
-    fn next(&mut self, slots: &mut [Option<Held<L::End>>], spare: Spare) -> Option<Due>
-        ensures settled { IfSome result (λ turn. NoneWaitsAt slots.new turn.index) }
-    {
+    fn next(&mut self, slots: &mut [Option<Held<L::End>>], spare: Spare) -> Option<Due> {
         let mut outcome = Outcome::Turned(spare);
         'actions: for _ in 0..u64::MAX {
             let action = match self.book.next(slots, outcome) {

@@ -1,5 +1,5 @@
 -- Messages whose bodies have not come whole.
-use Rattle.std.proofs.Common.{◌≡◌, ◌∙◌, ◌-◌, ◌≤◌, ℕ, List, Option, ap, refl, subst, sym, length}
+use Rattle.std.proofs.Common.{◌≡◌, ◌∙◌, ◌-◌, ◌≤◌, ℕ, List, Option, Some, ap, refl, subst, sym, length}
 use Rattle.std.specs.Option.{ForSome}
 use Rattle.std.specs.Io.KnownBytes.{Keeps, prepend_known}
 use Rattle.wire.specs.Feeds.{given_before, stood_at}

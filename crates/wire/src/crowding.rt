@@ -1,6 +1,6 @@
 //! Connections that come and go while others are served.
 ghost use Rattle.std.specs.Prelude.{◌≡◌, ◌<◌, ◌+◌, ℕ, cond, is_some, IfNone, IfSome, List, length};
-ghost use Rattle.wire.specs.Crowds.{ChangesBy, IsOpenAt};
+ghost use Rattle.wire.specs.Crowds.{ChangesBy, IsOpenAt, slot_at};
 
 use crate::standing::{Buffer, HeadBlock, Spare};
 use crate::seat::Seat;
@@ -43,6 +43,9 @@ pub trait Crowd<R: Read, W: Write> {
     /// crowd may rely on it that the connections in the slots are among those that came.
     ghost gave: { Self → (ℕ → ℕ) → List ℕ → Type 0 };
 
+    /// What holds of a connection whose turn is due.
+    ghost settled: { Seat R W → Type 0 };
+
     /// No more turns are due.
     ghost over: { Self → Type 0 };
 
@@ -59,6 +62,7 @@ pub trait Crowd<R: Read, W: Write> {
             self.old self.new slots.old slots.new result }
         ensures within { IfSome result (λ turn. turn.index < length slots.new) }
         ensures due { IfSome result (λ turn. IsOpenAt slots.new turn.index) }
+        ensures settled { IfSome result (λ turn. IfSome (slot_at slots.new turn.index) settled) }
         ensures over { IfNone result (over self.new) }
         ensures counts { turns self.old ≡ turns self.new + cond (is_some result) 1 0 };
 }

@@ -1,6 +1,10 @@
 use Rattle.std.proofs.Common.{refl, arith}
 use Rattle.sockets.proofs.Told.{reads_so}
+use Rattle.wire.specs.Crowds.{same}
 use Rattle.sockets.proofs.acting.gather.Goals as goal
+
+pub returns-then-index-slots-clause-changes : goal.returns-then-index-slots-clause-changes
+returns-then-index-slots-clause-changes g c = same
 
 pub returns-clause-acts : goal.returns-clause-acts
 returns-clause-acts g c gone = (
