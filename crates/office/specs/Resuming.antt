@@ -1,5 +1,5 @@
 -- Messages whose bodies come over several turns: how a step goes on with one.
-use Rattle.std.specs.Prelude.{◌≡◌, ◌≢◌, ℕ, List, [], Option, None, Some, IsSomeAnd, ⊤}
+use Rattle.std.specs.Prelude.{◌≡◌, ◌≢◌, ℕ, true, false, List, [], Option, None, Some, IsSomeAnd, ⊤}
 use Rattle.std.specs.Io.KnownBytes.{Keeps, prepend_known}
 use Rattle.sigtext.specs.Request.{Request}
 use Rattle.sigtext.specs.Counts.{Rose}
@@ -16,7 +16,7 @@ use Rattle.wire.specs.declared.feed.Feed.{Feed}
 use Rattle.wire.specs.declared.feed.Place.{Place}
 use Rattle.wire.specs.declared.feed.Place.TheVariants as place
 use Rattle.wire.specs.declared.session.SessionEnd.{SessionEnd}
-use Rattle.wire.specs.declared.session.SessionEnd.TheVariants.{WriteFault}
+use Rattle.wire.specs.declared.session.SessionEnd.TheVariants.{ReadFault, WriteFault}
 use Rattle.office.specs.Connections.{MayGiveUp}
 use Rattle.office.specs.Crashes.{AddsAsked, AddsStanding, IsAsked}
 use Rattle.office.specs.Handling.{Handles, end_of}
@@ -34,8 +34,9 @@ pub data EndsWhole {C K : Type 0} (gives : C → ℕ → C → Type 0) (clock cl
   given_up : (e : SessionEnd) → clock' ≡ clock → HoldsUp k true keeper keeper' → AddsStanding k keeper keeper' s → IsLeft (k.means keeper') s → IsReadable r → IsClosed output output' rule.TryAgain e
       → EndsWhole gives clock clock' output output' k keeper keeper' s r (Some e)
 
--- the writer's count of faults rose if a write failed, and is unchanged otherwise
+-- no read failed, and the writer's count of faults rose if a write failed, and is unchanged otherwise
 pub record TellsWhole {W : Type 0} (e : Option SessionEnd) (writer writer' : Counted W) : Type 0 where
+  pub not_read : e ≢ Some ReadFault
   pub written : e ≡ Some WriteFault → Rose writer.faults writer'.faults
   pub not_written : (e ≢ Some WriteFault) → writer'.faults ≡ writer.faults
 
