@@ -1,5 +1,5 @@
 -- The values of the six signing parameters, and the rules on their forms.
-use Rattle.std.specs.Prelude.{◌≡◌, ℕ, ◌-◌, List, take, drop, ◌∷◌, [], codes, ⊤, IsTrue, ◌⊎◌, IsFalse}
+use Rattle.std.specs.Prelude.{◌≡◌, ℕ, ◌-◌, List, take, drop, ◌∷◌, [], codes, ⊤, IsTrue, ◌⊎◌}
 use Rattle.std.specs.List.{list_any}
 use Rattle.sigtext.specs.declared.refusal.Refusal.{Refusal}
 use Rattle.sigtext.specs.declared.refusal.Refusal.TheVariants as rule
@@ -13,7 +13,7 @@ use Rattle.sigv4.specs.Credential.{IsCredential}
 use Rattle.sigv4.specs.Dates.{WritesMoment}
 use Rattle.links.specs.Forms.{IsExpiry, IsHexDigest}
 use Rattle.links.specs.WellFormed.{HasValue, AreTheSix}
-use Rattle.sigtext.specs.Readable.{is_signing_name, is_other_amz_name}
+use Rattle.sigtext.specs.Readable.{is_signing_name}
 use Rattle.links.specs.declared.six.RawSix.{RawSix}
 use Rattle.links.specs.declared.six_values.SixValues.{SixValues}
 

@@ -1,10 +1,10 @@
 -- The rules for a request's method, target and fields, which do not depend on what the office stores (Amazon S3 API Reference,
 -- "Authenticating Requests: Using Query Parameters").
-use Rattle.std.specs.Prelude.{◌≡◌, ℕ, Bool, ◌&&◌, not, IsTrue, IsFalse, List, [], ◌∷◌, length, map, codes, ⊤}
+use Rattle.std.specs.Prelude.{◌≡◌, ℕ, IsTrue, IsFalse, List, [], ◌∷◌, length, map, codes, ⊤}
 use Rattle.std.specs.List.{list_all, list_any, AllByRecursion}
 use Rattle.sigtext.specs.declared.refusal.Refusal.{Refusal}
 use Rattle.sigtext.specs.declared.refusal.Refusal.TheVariants as rule
-use Rattle.sigtext.specs.Bytes.{same_bytes, begins_with}
+use Rattle.sigtext.specs.Bytes.{same_bytes}
 use Rattle.sigtext.specs.Request.{Request}
 use Rattle.sigtext.specs.Readable.{methods, signing_names, is_signing_name, is_other_amz_name}
 use Rattle.sigtext.specs.Target.{Param, IsTargetOf}
