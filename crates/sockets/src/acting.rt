@@ -33,7 +33,10 @@ impl<L: Listener> Gate<L, L::Stream> {
     {
         match action {
             Action::Pass => Outcome::Passed,
-            Action::Turn(_) => Outcome::Passed,
+            Action::Turn(due) => {
+                drop(due);
+                Outcome::Passed
+            }
             Action::Over => Outcome::Passed,
             Action::Gather { index, most } => gather(slots, index, most),
             Action::Settle { index } => settle(slots, index),

@@ -91,7 +91,11 @@ impl<R: time::Clock, L: Listener, S: Start<L::Stream, L::End>> Crowd<
                     return Some(due);
                 }
                 Action::Turn(due) if self.turns > 0 => Action::Send { index: due.index },
-                Action::Turn(_) | Action::Over => return None,
+                Action::Turn(due) => {
+                    drop(due);
+                    return None;
+                }
+                Action::Over => return None,
                 action => action,
             };
             outcome = self.gate.act(slots, action, self.book.alloc);

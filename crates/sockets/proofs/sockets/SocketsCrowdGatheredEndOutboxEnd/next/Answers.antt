@@ -38,6 +38,16 @@ returns-in-Turn-3-clause-changes g c came gone met =
       λ numbers given among gave. gave_still _ _ _ _ given (omega (arith, met.counted, x.2.counted, length-append came x.0)) c.actions.invariant.1 gave,
     )
 
+pub returns-in-Over-clause-changes : goal.returns-in-Over-clause-changes
+returns-in-Over-clause-changes g c came gone met =
+    let x = moves_met _ _ _ _ _ _ _ c.args.self.now.gate c.actions.self.gate c.args.slots.now c.actions.slots c.actions.invariant.0 came gone met in (
+      x.0,
+      x.1,
+      x.2,
+      x.3,
+      λ numbers given among gave. gave_still _ _ _ _ given (omega (arith, met.counted, x.2.counted, length-append came x.0)) c.actions.invariant.1 gave,
+    )
+
 pub actions-preserved : goal.actions-preserved
 actions-preserved g c = (
   moves_then _ _ _ _ c.args.self.now.gate c.actions.self.gate c.act-outcome.new.self c.args.slots.now c.actions.slots c.act-outcome.new.slots c.actions.invariant.0 c.act-outcome.ensures.moves,
