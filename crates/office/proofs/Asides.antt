@@ -16,6 +16,7 @@ use Rattle.wire.specs.declared.feed.Place.{Place}
 use Rattle.wire.specs.declared.feed.Place.TheVariants as place
 use Rattle.wire.specs.declared.session.SessionEnd.{SessionEnd}
 use Rattle.wire.specs.declared.standing.Standing.{Standing}
+use Rattle.wire.specs.declared.underway.Kept.{Kept}
 use Rattle.wire.specs.declared.underway.Underway.{Underway}
 use Rattle.wire.proofs.Ties.{none_is, some_is}
 use Rattle.office.specs.Connections.{MayGiveUp}
@@ -50,21 +51,23 @@ module _ {R : Type 0} (remaining : R → Option (List ℕ)) {feed : Feed R} {sta
   pub none_aside : given_of feed ≡ [] → left remaining feed ≡ left_behind None standing (remaining reader.inner)
   none_aside none = left_aside ∙ sym (behind_none standing (remaining reader.inner) (sym x.given ∙ none))
 
-  -- within a body
-  pub begun_aside : (u : Underway) → prepend_known (head_of u) (whole_left remaining feed) ≡ left_behind (Some u) standing (remaining reader.inner)
-  begun_aside u =
-      ap (prepend_known (head_of u))
+  -- within a body whose head is this text
+  begun_aside : (text : List ℕ) → prepend_known text (whole_left remaining feed) ≡ prepend_known text (prepend_known (given_before standing) (prepend_known (ahead_of standing) (remaining reader.inner)))
+  begun_aside text =
+      ap (prepend_known text)
       (ap (λ (l : List ℕ). prepend_known l (left remaining feed)) x.given ∙ ap (prepend_known (given_before standing)) left_aside)
 
   pub keeps_none : (known : Option (List ℕ)) → given_of feed ≡ [] → Keeps known (left remaining feed) → Keeps known (left_behind None standing (remaining reader.inner))
   keeps_none known none keeps = subst (Keeps known) (none_aside none) keeps
 
-  pub keeps_begun : (known : Option (List ℕ)) (u : Underway) → Keeps known (prepend_known (head_of u) (whole_left remaining feed)) → Keeps known (left_behind (Some u) standing (remaining reader.inner))
-  keeps_begun known u keeps = subst (Keeps known) (begun_aside u) keeps
+  pub keeps_begun : (known : Option (List ℕ)) (text : List ℕ) → Keeps known (prepend_known text (whole_left remaining feed))
+      → Keeps known (prepend_known text (prepend_known (given_before standing) (prepend_known (ahead_of standing) (remaining reader.inner))))
+  keeps_begun known text keeps = subst (Keeps known) (begun_aside text) keeps
 
   -- a feed that was resumed has the bytes of the message under way
   pub keeps_resumed : (u : Underway) → Keeps (left_behind (Some u) standing (remaining reader.inner)) (prepend_known (head_of u) (whole_left remaining feed))
-  keeps_resumed u = subst (λ (known : Option (List ℕ)). Keeps known (prepend_known (head_of u) (whole_left remaining feed))) (begun_aside u) (Keeps-refl (prepend_known (head_of u) (whole_left remaining feed)))
+  keeps_resumed u =
+      subst (λ (known : Option (List ℕ)). Keeps known (prepend_known (head_of u) (whole_left remaining feed))) (begun_aside (head_of u)) (Keeps-refl (prepend_known (head_of u) (whole_left remaining feed)))
 
 -- a message is under way in the feed that was set aside
 pub underway_aside : {R : Type 0} (feed : Feed R) (standing : Standing) (u : Underway) → stood_at standing ≡ place_of feed → given_of feed ≡ given_before standing
@@ -72,6 +75,16 @@ pub underway_aside : {R : Type 0} (feed : Feed R) (standing : Standing) (u : Und
 underway_aside feed standing u here given is =
     subst (λ (p : Place). IsBegun (head_of u) u.size u.kept p (given_before standing)) (sym here)
     (subst (λ (l : List ℕ). IsBegun (head_of u) u.size u.kept (place_of feed) l) given is)
+
+-- the same for a message that has just begun, and whose head is at the front of the block
+pub begun_aside_as : {R : Type 0} (feed : Feed R) (standing : Standing) (block : List ℕ) (b : Begun) (u : Underway) → u.text.value ≡ block → u.len ≡ b.len → u.size ≡ b.size → u.kept ≡ b.kept
+    → stood_at standing ≡ place_of feed → given_of feed ≡ given_before standing → IsBegun (take b.len block) b.size b.kept (place_of feed) (given_of feed) → IsUnderway u standing
+begun_aside_as feed standing block b u text len size kept here given is =
+    let head : take b.len block ≡ head_of u = ap (λ (n : ℕ). take n block) (sym len) ∙ ap (take u.len) (sym text) in
+    underway_aside feed standing u here given
+    (subst (λ (x : List ℕ). IsBegun x u.size u.kept (place_of feed) (given_of feed)) head
+    (subst (λ (n : ℕ). IsBegun (take b.len block) n u.kept (place_of feed) (given_of feed)) (sym size)
+    (subst (λ (o : Option Kept). IsBegun (take b.len block) b.size o (place_of feed) (given_of feed)) (sym kept) is)))
 
 -- a body that is open is open in a feed that is resumed
 pub resumed_begun : (head : List ℕ) (u : Underway) (p q : Place) (l m : List ℕ) → p ≡ resumed_at q → l ≡ m → IsBegun head u.size u.kept q m → IsBegun head u.size u.kept p l

@@ -7,7 +7,6 @@ use Rattle.std.specs.Io.KnownBytes.{Appends, Keeps, prepend_known}
 use Rattle.sigtext.specs.Counts.{Rose}
 use Rattle.boxes.specs.declared.keep.Keeper.{Ghosts}
 use Rattle.boxes.specs.State.{State}
-use Rattle.http_server.specs.declared.log.Log.{Log}
 use Rattle.wire.specs.declared.counted.Counted.{Counted}
 use Rattle.wire.specs.declared.feed.Place.{Place}
 use Rattle.wire.specs.declared.feed.Place.TheVariants as place
@@ -181,7 +180,7 @@ module _ {R W : Type 0} (remaining : R → Option (List ℕ)) (contents : W → 
       ∙ ap (λ (o : Option SessionEnd). record (sitting_of first new gave_up lost) { served = new.served; waited = waits_of new; end = o }) (sym is)
 
   same_waits : (old new : Seat R W) → new.waited ≡ old.waited → waits_of new ≡ waits_of old
-  same_waits old new is = ap (λ (l : Log ℕ ℕ). length l.items) is
+  same_waits old new is = rw is refl
 
   module _ {C K : Type 0} {whose : List ℕ} (gives : C → ℕ → C → Type 0) (k : Ghosts K) (fs ns : List (Seat R W)) (clock clock' clock'' : C) (keeper keeper' keeper'' : K) (s mid after : State)
       (p : ℕ) (d new : Seat R W) (lt : p < length ns) (open_there : (get_or ns p d).end ≡ None) where
@@ -201,21 +200,21 @@ module _ {R W : Type 0} (remaining : R → Option (List ℕ)) (contents : W → 
           so_far = answered_more gives k t.sittings clock clock' keeper keeper' s mid t.so_far p dx z at.within at.is was_open
               (left_of remaining new) (remaining new.reader.inner) (contents new.writer.inner) clock'' keeper'' after (subst (λ n. n ≤ most_messages) served new.few) goes;
         }
-    turns_more (read_on was_open is_open served waited keeps by same_state) t =
+    turns_more (read_on was_open is_open served waited keeps stood same_state) t =
         let dx = sitting_of d d false None in
         let at = stands_there fs ns t.sittings p d dx lt t.are in
         let old = get_or ns p d in
         let x = get_or t.sittings p dx in
         let z = sitting_of at.first old x.gave_up x.lost in
         let y = reads_on z (left_of remaining new) (remaining new.reader.inner) in
-        let unwritten : z.written ≡ contents new.writer.inner = ap (λ (w : Counted W). contents w.inner) (sym by.written) in
+        let unwritten : z.written ≡ contents new.writer.inner = ap (λ (w : Counted W). contents w.inner) (sym stood.written) in
         record {
           sittings = set t.sittings p y;
           are = at.more new y (ap (λ (o : Option (List ℕ)). record y { written = o }) unwritten ∙ same_sitting at.first new old.served (waits_of old + 1) old.end x.gave_up x.lost served waited (is_open ∙ sym was_open));
-          so_far = subst (λ (c : C). SoFar gives k (set t.sittings p y) (whose ++ p ∷ []) clock c keeper keeper'' s after) (sym by.told)
+          so_far = subst (λ (c : C). SoFar gives k (set t.sittings p y) (whose ++ p ∷ []) clock c keeper keeper'' s after) (sym stood.told)
               (subst (λ (a : State). SoFar gives k (set t.sittings p y) (whose ++ p ∷ []) clock clock' keeper keeper'' s a) (sym same_state)
               (read_on_more gives k t.sittings clock clock' keeper keeper' s mid t.so_far p dx z at.within at.is was_open
-              (left_of remaining new) (remaining new.reader.inner) keeper'' keeps by.held by.lasts));
+              (left_of remaining new) (remaining new.reader.inner) keeper'' keeps stood.held stood.lasts));
         }
     turns_more (ended n e was_open is served kept_waits sum serves once begun) t =
         let dx = sitting_of d d false None in

@@ -273,7 +273,7 @@ impl<K: Keeper> Office<K> {
         ensures rest { HoldsUnless K.Keeper self.old.keeper self.new.keeper
             (IsSomeAnd seat.new.end (MayGiveUp K.Keeper self.old.keeper self.new.keeper)) }
     {
-        if seat.end.is_some() {
+        if seat.end().is_some() {
             return due.spare();
         }
         if seat.served >= MOST_MESSAGES {

@@ -1,13 +1,15 @@
-use Rattle.std.proofs.Common.{◌≡◌, ◌∙◌, inr, refl, subst, sym}
+use Rattle.std.proofs.Common.{◌≡◌, ◌∙◌, ap, inr, refl, subst, sym}
 use Rattle.std.specs.Prelude.{List, ℕ, None, Option, take}
 use Rattle.std.specs.Io.KnownBytes.{Keeps, prepend_known}
 use Rattle.wire.specs.Feeds.{left, place_of, reader_of, stood_at, whole_left}
 use Rattle.wire.specs.Seats.{left_behind}
 use Rattle.wire.specs.declared.feed.Place.TheVariants as place
+use Rattle.wire.specs.declared.underway.Underway.{Underway}
 use Rattle.wire.proofs.Begins.{resumed_between}
+use Rattle.wire.proofs.Ties.{none_is, some_is}
 use Rattle.office.specs.Stepping.{ReadsOn}
 use Rattle.office.specs.declared.connections.stepping.Begun.{Begun}
-use Rattle.office.proofs.Asides.{HasSame, begun_there, goes_none, holds_done, keeps_begun, keeps_none, none_aside, none_there, stands_begun, stands_done, stands_none, tells_by, tells_done, turn_done, underway_aside}
+use Rattle.office.proofs.Asides.{HasSame, begun_aside_as, begun_there, goes_none, holds_done, keeps_begun, keeps_none, none_aside, none_there, stands_done, stands_none, tells_by, tells_done, turn_done}
 use Rattle.office.proofs.SeatTurns.{steps_by}
 use Rattle.office.proofs.office.Office.begin.Goals as goal
 
@@ -16,7 +18,7 @@ step_on-stepped-requires g c = inr (c.resume-feed.ensures.place ∙ resumed_betw
 
 pub invariant_of-result : goal.invariant_of-result
 invariant_of-result g c =
-    (begun_there c.step_on-stepped.new.feed c.step_on-stepped.new.block c.in-Waits-Some.field-0 c.in-Waits-Some.field-0-0 c.in-Waits-Some.field-0-is c.in-Waits-Some.ensures.stands).0
+    record { short = (begun_there c.step_on-stepped.new.feed c.step_on-stepped.new.block c.in-Waits-Some.field-0 c.in-Waits-Some.field-0-0 c.in-Waits-Some.field-0-is c.in-Waits-Some.ensures.stands).0 }
 
 pub returns-in-Done-clause-stands : goal.returns-in-Done-clause-stands
 returns-in-Done-clause-stands g c =
@@ -85,10 +87,14 @@ pub returns-in-Waits-None-clause-rest : goal.returns-in-Waits-None-clause-rest
 returns-in-Waits-None-clause-rest g c = c.in-Waits-None.ensures.rest
 
 pub returns-in-Waits-Some-clause-stands : goal.returns-in-Waits-Some-clause-stands
-returns-in-Waits-Some-clause-stands g c =
-    stands_begun c.set_aside-standing.result.0 _
-    (underway_aside c.step_on-stepped.new.feed c.set_aside-standing.result.0 _ c.set_aside-standing.ensures.place (sym c.set_aside-standing.ensures.given)
-    (begun_there c.step_on-stepped.new.feed c.step_on-stepped.new.block c.in-Waits-Some.field-0 c.in-Waits-Some.field-0-0 c.in-Waits-Some.field-0-is c.in-Waits-Some.ensures.stands).1)
+returns-in-Waits-Some-clause-stands g c = (
+  λ none. absurd (none_is _ (sym none)),
+  λ u at.
+      let same = some_is _ u at in
+      begun_aside_as c.step_on-stepped.new.feed c.set_aside-standing.result.0 c.step_on-stepped.new.block c.in-Waits-Some.field-0-0 u (sym (ap (λ (w : Underway). w.text.value) same)) (sym (ap (λ (w : Underway). w.len) same))
+      (sym (ap (λ (w : Underway). w.size) same)) (sym (ap (λ (w : Underway). w.kept) same)) c.set_aside-standing.ensures.place (sym c.set_aside-standing.ensures.given)
+      (begun_there c.step_on-stepped.new.feed c.step_on-stepped.new.block c.in-Waits-Some.field-0 c.in-Waits-Some.field-0-0 c.in-Waits-Some.field-0-is c.in-Waits-Some.ensures.stands).1,
+)
 
 pub returns-in-Waits-Some-clause-turns : goal.returns-in-Waits-Some-clause-turns
 returns-in-Waits-Some-clause-turns g c s kept =
@@ -101,7 +107,8 @@ returns-in-Waits-Some-clause-turns g c s kept =
     let h = c.in-Waits-Some.ensures.steps s kept in
     let known = none_aside remaining first (c.resume-feed.ensures.given ∙ c.requires.none) in
     let reads = subst (λ (o : Option Begun). ReadsOn remaining (left remaining c.resume-feed.result) feed c.step_on-stepped.new.block o) c.in-Waits-Some.field-0-is h.0 in
-    (keeps_begun remaining last _ _ (subst (λ (l : Option (List ℕ)). Keeps l (prepend_known (take c.in-Waits-Some.len c.step_on-stepped.new.block) (whole_left remaining feed))) known reads.2), h.1)
+    let head = take c.in-Waits-Some.field-0-0.len c.step_on-stepped.new.block in
+    (keeps_begun remaining last _ head (subst (λ (l : Option (List ℕ)). Keeps l (prepend_known head (whole_left remaining feed))) known reads.2), h.1)
 
 pub returns-in-Waits-Some-clause-faults : goal.returns-in-Waits-Some-clause-faults
 returns-in-Waits-Some-clause-faults g c =

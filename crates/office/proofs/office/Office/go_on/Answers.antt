@@ -54,7 +54,7 @@ returns-in-Waits-clause-turns g c s kept =
         sym (c.reader-1.given.1 (sym (c.into_reader.ensures.same ∙ c.set_aside-standing.ensures.same ∙ c.in-Waits.ensures.same ∙ c.resume-feed.ensures.same)) ∙ c.into_reader.ensures.now ∙ c.set_aside-standing.ensures.reader) in
     let last : HasSame feed c.set_aside-standing.result.0 c.reader-1.given.0 = record { ahead = sym c.set_aside-standing.ensures.waiting; given = sym c.set_aside-standing.ensures.given; read_by = back } in
     let h = c.in-Waits.ensures.steps s place.Between _ kept (keeps_resumed remaining first c.args.underway) in
-    (keeps_begun remaining last _ c.in-Waits.underway h.1, h.2)
+    (keeps_begun remaining last _ (head_of c.in-Waits.underway) h.1, h.2)
 
 pub returns-in-Waits-clause-faults : goal.returns-in-Waits-clause-faults
 returns-in-Waits-clause-faults g c =

@@ -1,5 +1,7 @@
 use Rattle.std.proofs.Common.{◌≡◌, ◌∙◌, ◌+◌, ℕ, List, None, Some, Option, [], ap, arith, inl, length, refl, subst, sym}
+use Rattle.std.specs.Prelude.{is_some}
 use Rattle.std.proofs.lemmas.List.{length_push}
+use Rattle.wire.specs.declared.session.SessionEnd.{SessionEnd}
 use Rattle.wire.specs.declared.session.SessionEnd.TheVariants.{Limit}
 use Rattle.wire.specs.declared.standing.Standing.{Standing}
 use Rattle.wire.specs.declared.underway.Underway.{Underway}
@@ -11,7 +13,7 @@ use Rattle.wire.proofs.Begins.{may_begin_there}
 use Rattle.wire.proofs.Ends.{none_of, some_of}
 use Rattle.wire.proofs.Ties.{none_is}
 use Rattle.wire.proofs.Underways.{still_underway}
-use Rattle.office.specs.Seats.{ended, had_ended, waits_of}
+use Rattle.office.specs.Seats.{TellsTurnOf, ended, had_ended}
 use Rattle.office.proofs.Holding.{holds_less, holds_still}
 use Rattle.office.proofs.SeatAsides.{answered_turn, begins_aside, begins_at, ended_turn, never_fresh, none_underway, read_on_turn}
 use Rattle.office.proofs.SeatTurns.{turn_tells}
@@ -20,13 +22,13 @@ use Rattle.office.proofs.office.Office.take_turn.Goals as goal
 
 pub returns-then-is_some-clause-turns : goal.returns-then-is_some-clause-turns
 returns-then-is_some-clause-turns g c s kept =
-    let e = some_of c.args.seat.now.end (sym c.is_some.ensures ∙ c.if-is_some.true) in
+    let e = some_of c.args.seat.now.end (sym (ap is_some c.end.ensures) ∙ sym c.is_some.ensures ∙ c.if-is_some.true) in
     (s, record { means = kept.means; sound = kept.sound }, had_ended e.0 e.1 refl refl refl refl)
 
 pub returns-then-seat-ge-MOST_MESSAGES-clause-turns : goal.returns-then-seat-ge-MOST_MESSAGES-clause-turns
 returns-then-seat-ge-MOST_MESSAGES-clause-turns g c s kept =
     let seat = c.args.seat.now in
-    let was_open = none_of seat.end (sym c.is_some.ensures ∙ c.if-is_some.false) in (
+    let was_open = none_of seat.end (sym (ap is_some c.end.ensures) ∙ sym c.is_some.ensures ∙ c.if-is_some.false) in (
       s,
       record { means = kept.means; sound = kept.sound },
       ended 0 Limit was_open refl refl refl (omega (arith, c.if-seat-ge-MOST_MESSAGES.true, seat.few))
@@ -38,13 +40,13 @@ returns-then-seat-ge-MOST_MESSAGES-clause-turns g c s kept =
 pub turn_aside-aside-requires-clause-begins : goal.turn_aside-aside-requires-clause-begins
 turn_aside-aside-requires-clause-begins g c none =
     let seat = c.args.seat.now in
-    let was_open = none_of seat.end (sym c.is_some.ensures ∙ c.if-is_some.false) in
+    let was_open = none_of seat.end (sym (ap is_some c.end.ensures) ∙ sym c.is_some.ensures ∙ c.if-is_some.false) in
     subst (λ (l : Standing). MayBegin (stood_at l)) (sym c.replace-standing.ensures.value) (may_begin_there (stood_at seat.standing) (seat.begins was_open (sym c.take-underway.ensures.value ∙ none)))
 
 pub turn_aside-aside-requires-clause-none : goal.turn_aside-aside-requires-clause-none
 turn_aside-aside-requires-clause-none g c none =
     let seat = c.args.seat.now in
-    let was_open = none_of seat.end (sym c.is_some.ensures ∙ c.if-is_some.false) in
+    let was_open = none_of seat.end (sym (ap is_some c.end.ensures) ∙ sym c.is_some.ensures ∙ c.if-is_some.false) in
     subst (λ (l : Standing). given_before l ≡ []) (sym c.replace-standing.ensures.value) (seat.forgot was_open (sym c.take-underway.ensures.value ∙ none))
 
 pub turn_aside-aside-requires-clause-goes_on : goal.turn_aside-aside-requires-clause-goes_on
@@ -55,7 +57,7 @@ pub returns-in-Answered-clause-turns : goal.returns-in-Answered-clause-turns
 returns-in-Answered-clause-turns g c s kept =
     let seat = c.args.seat.now in
     let rest = g.R.Read.remaining seat.reader.inner in
-    let was_open = none_of seat.end (sym c.is_some.ensures ∙ c.if-is_some.false) in
+    let was_open = none_of seat.end (sym (ap is_some c.end.ensures) ∙ sym c.is_some.ensures ∙ c.if-is_some.false) in
     let known : left_behind c.take-underway.result c.replace-standing.result rest ≡ left_of g.R.Read.remaining seat =
         ap (λ (u : Option Underway). left_behind u c.replace-standing.result rest) c.take-underway.ensures.value ∙ ap (λ (l : Standing). left_behind seat.underway l rest) c.replace-standing.ensures.value in
     answered_turn g.C.Clock.now_gives g.R.Read.remaining g.W.Write.contents seat _ c.turn_aside-aside.result c.args.clock.now c.turn_aside-aside.new.clock g.K.Keeper c.args.self.now.keeper c.turn_aside-aside.new.self.keeper s
@@ -65,7 +67,7 @@ pub returns-in-ReadOn-clause-turns : goal.returns-in-ReadOn-clause-turns
 returns-in-ReadOn-clause-turns g c s kept =
     let seat = c.args.seat.now in
     let rest = g.R.Read.remaining seat.reader.inner in
-    let was_open = none_of seat.end (sym c.is_some.ensures ∙ c.if-is_some.false) in
+    let was_open = none_of seat.end (sym (ap is_some c.end.ensures) ∙ sym c.is_some.ensures ∙ c.if-is_some.false) in
     let known : left_behind c.take-underway.result c.replace-standing.result rest ≡ left_of g.R.Read.remaining seat =
         ap (λ (u : Option Underway). left_behind u c.replace-standing.result rest) c.take-underway.ensures.value ∙ ap (λ (l : Standing). left_behind seat.underway l rest) c.replace-standing.ensures.value in
     let longer = ap length c.and-seat.ensures in
@@ -76,7 +78,7 @@ pub returns-in-Ended-clause-turns : goal.returns-in-Ended-clause-turns
 returns-in-Ended-clause-turns g c s kept =
     let seat = c.args.seat.now in
     let rest = g.R.Read.remaining seat.reader.inner in
-    let was_open = none_of seat.end (sym c.is_some.ensures ∙ c.if-is_some.false) in
+    let was_open = none_of seat.end (sym (ap is_some c.end.ensures) ∙ sym c.is_some.ensures ∙ c.if-is_some.false) in
     let known : left_behind c.take-underway.result c.replace-standing.result rest ≡ left_of g.R.Read.remaining seat =
         ap (λ (u : Option Underway). left_behind u c.replace-standing.result rest) c.take-underway.ensures.value ∙ ap (λ (l : Standing). left_behind seat.underway l rest) c.replace-standing.ensures.value in
     ended_turn g.C.Clock.now_gives g.R.Read.remaining g.W.Write.contents seat _ c.turn_aside-aside.result c.args.clock.now c.turn_aside-aside.new.clock g.K.Keeper c.args.self.now.keeper c.turn_aside-aside.new.self.keeper s
@@ -85,7 +87,13 @@ returns-in-Ended-clause-turns g c s kept =
 pub invariant_of-seat : goal.invariant_of-seat
 invariant_of-seat g c =
     let seat = c.args.seat.now in
-    record { few = seat.few; begins = seat.begins; forgot = seat.forgot; goes_on = seat.goes_on; fresh = seat.fresh }
+    record {
+      few = seat.few;
+      begins = λ over none. absurd (none_is Limit (sym over));
+      forgot = λ over none. absurd (none_is Limit (sym over));
+      goes_on = still_underway seat.underway seat.standing c.let_go.new.self c.let_go.ensures.place c.let_go.ensures.given seat.goes_on;
+      fresh = λ over at. absurd (none_is Limit (sym over));
+    }
 
 pub invariant_of-seat-then-seat-ge-MOST_MESSAGES : goal.invariant_of-seat-then-seat-ge-MOST_MESSAGES
 invariant_of-seat-then-seat-ge-MOST_MESSAGES g c =
@@ -166,18 +174,21 @@ returns-in-Ended-clause-rest g c = rw c.in-Ended.is at c.turn_aside-aside.ensure
 
 pub returns-in-Answered-clause-faults : goal.returns-in-Answered-clause-faults
 returns-in-Answered-clause-faults g c =
-    let was_open = none_of c.args.seat.now.end (sym c.is_some.ensures ∙ c.if-is_some.false) in
+    let was_open = none_of c.args.seat.now.end (sym (ap is_some c.end.ensures) ∙ sym c.is_some.ensures ∙ c.if-is_some.false) in
     turn_tells c.args.seat.now _ None was_open was_open (rw c.in-Answered.is at c.turn_aside-aside.ensures.faults)
 
 pub returns-in-ReadOn-clause-faults : goal.returns-in-ReadOn-clause-faults
 returns-in-ReadOn-clause-faults g c =
-    let was_open = none_of c.args.seat.now.end (sym c.is_some.ensures ∙ c.if-is_some.false) in
+    let was_open = none_of c.args.seat.now.end (sym (ap is_some c.end.ensures) ∙ sym c.is_some.ensures ∙ c.if-is_some.false) in
     turn_tells c.args.seat.now _ None was_open was_open (rw c.in-ReadOn.is at c.turn_aside-aside.ensures.faults)
 
 pub returns-in-Ended-clause-faults : goal.returns-in-Ended-clause-faults
 returns-in-Ended-clause-faults g c =
-    let was_open = none_of c.args.seat.now.end (sym c.is_some.ensures ∙ c.if-is_some.false) in
+    let was_open = none_of c.args.seat.now.end (sym (ap is_some c.end.ensures) ∙ sym c.is_some.ensures ∙ c.if-is_some.false) in
     turn_tells c.args.seat.now _ (Some c.in-Ended.end) was_open refl (rw c.in-Ended.is at c.turn_aside-aside.ensures.faults)
 
 pub returns-then-is_some-clause-faults : goal.returns-then-is_some-clause-faults
-returns-then-is_some-clause-faults g c = grind arith
+returns-then-is_some-clause-faults g c =
+    let seat = c.args.seat.now in
+    let e = some_of seat.end (sym (ap is_some c.end.ensures) ∙ sym c.is_some.ensures ∙ c.if-is_some.true) in
+    subst (λ (o : Option SessionEnd). TellsTurnOf o seat seat) (sym e.1) refl
