@@ -95,17 +95,6 @@ invariant_of-seat g c =
       fresh = λ over at. absurd (none_is Limit (sym over));
     }
 
-pub invariant_of-seat-then-seat-ge-MOST_MESSAGES : goal.invariant_of-seat-then-seat-ge-MOST_MESSAGES
-invariant_of-seat-then-seat-ge-MOST_MESSAGES g c =
-    let seat = c.args.seat.now in
-    record {
-      few = seat.few;
-      begins = λ over none. absurd (none_is Limit (sym over));
-      forgot = λ over none. absurd (none_is Limit (sym over));
-      goes_on = still_underway seat.underway seat.standing c.let_go.new.self c.let_go.ensures.place c.let_go.ensures.given seat.goes_on;
-      fresh = λ over at. absurd (none_is Limit (sym over));
-    }
-
 pub invariant_of-seat-in-Answered : goal.invariant_of-seat-in-Answered
 invariant_of-seat-in-Answered g c =
     let aside = c.turn_aside-aside.result in
