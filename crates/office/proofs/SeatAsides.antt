@@ -1,5 +1,5 @@
 -- What a turn makes of a seat: from its feed, which was set aside, to the turn that its connection took.
-use Rattle.std.proofs.Common.{◌≡◌, ◌∙◌, ◌+◌, ◌-◌, ◌<◌, ℕ, suc, List, [], length, Option, None, Some, refl, sym, ap, subst, arith}
+use Rattle.std.proofs.Common.{◌≡◌, ◌∙◌, ◌+◌, ◌-◌, ◌<◌, ℕ, suc, List, length, Option, None, Some, refl, sym, ap, subst, arith}
 use Rattle.std.specs.Prelude.{IsTrue}
 use Rattle.std.specs.Io.KnownBytes.{Keeps}
 use Rattle.std.specs.Option.{ForSome}
@@ -9,7 +9,6 @@ use Rattle.wire.specs.Begins.{may_begin}
 use Rattle.wire.specs.Feeds.{given_before, stood_at}
 use Rattle.wire.specs.Seats.{left_behind, left_of}
 use Rattle.wire.specs.Underways.{IsUnderway}
-use Rattle.wire.specs.declared.feed.Place.{Place}
 use Rattle.wire.specs.declared.feed.Place.TheVariants as place
 use Rattle.wire.specs.declared.seat.Seat.{Seat}
 use Rattle.wire.specs.declared.session.SessionEnd.{SessionEnd}

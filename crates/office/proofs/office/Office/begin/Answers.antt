@@ -2,7 +2,6 @@ use Rattle.std.proofs.Common.{◌≡◌, ◌∙◌, ap, inr, refl, subst, sym}
 use Rattle.std.specs.Prelude.{List, ℕ, None, Option, take}
 use Rattle.std.specs.Io.KnownBytes.{Keeps, prepend_known}
 use Rattle.wire.specs.Feeds.{left, place_of, reader_of, stood_at, whole_left}
-use Rattle.wire.specs.Seats.{left_behind}
 use Rattle.wire.specs.declared.feed.Place.TheVariants as place
 use Rattle.wire.specs.declared.underway.Underway.{Underway}
 use Rattle.wire.proofs.Begins.{resumed_between}
