@@ -41,4 +41,6 @@ pub mod CrowdTurns
 pub mod WithoutInTurn
 pub mod Endings
 pub mod Turns
+pub mod Asides
+pub mod SeatAsides
 pub mod ReplayLemmas

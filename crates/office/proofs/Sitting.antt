@@ -199,10 +199,10 @@ gathered_sits x left reader turns keeps h = record {
 
 -- ---- it reads on in its next message
 
-abbrev pub read_on : Sitting → Option (List ℕ) → Option (List ℕ) → Sitting
-read_on x left reader = record x { left = left; reader = reader; waited = x.waited + 1 }
+abbrev pub reads_on : Sitting → Option (List ℕ) → Option (List ℕ) → Sitting
+reads_on x left reader = record x { left = left; reader = reader; waited = x.waited + 1 }
 
-pub read_on_sits : (x : Sitting) (left reader : Option (List ℕ)) (t : Turn) (turns : List Turn) → t.moments ≡ [] → t.acts ≡ [] → Keeps x.left left → Heard x turns → Heard (read_on x left reader) (turns ++ t ∷ [])
+pub read_on_sits : (x : Sitting) (left reader : Option (List ℕ)) (t : Turn) (turns : List Turn) → t.moments ≡ [] → t.acts ≡ [] → Keeps x.left left → Heard x turns → Heard (reads_on x left reader) (turns ++ t ∷ [])
 read_on_sits x left reader t turns told acted keeps h =
     let same : acts_in (turns ++ t ∷ []) ≡ acts_in turns = acts_more turns t ∙ ap (λ (l : List Act). acts_in turns ++ l) acted ∙ append-nil (acts_in turns) in
     let none : moments_in (turns ++ t ∷ []) ≡ moments_in turns = moments_more turns t ∙ ap (λ (l : List ℕ). moments_in turns ++ l) told ∙ append-nil (moments_in turns) in

@@ -30,7 +30,7 @@ use Rattle.office.proofs.RunSoFar.{told_more}
 use Rattle.office.proofs.SessionSteps.{few_moments}
 use Rattle.office.proofs.Unstaged.{rose_before, rose_later}
 use Rattle.office.proofs.RunTurns.{acts_joined, less_is_not, none_whole, same_is, speaks_of, tied_of}
-use Rattle.office.proofs.Sitting.{IsLost, IsLostIn, Lost, Sitting, Sits, SitsSo, IsFirst, act_of, acts_more, moments_more, answered, answered_sits, closed, closed_sits, first_sits, gathered, gathered_sits, open_sits, sent_on, sent_sits, sits_open, read_on, read_on_sits}
+use Rattle.office.proofs.Sitting.{IsLost, IsLostIn, Lost, Sitting, Sits, SitsSo, IsFirst, act_of, acts_more, moments_more, answered, answered_sits, closed, closed_sits, first_sits, gathered, gathered_sits, open_sits, sent_on, sent_sits, sits_open, reads_on, read_on_sits}
 
 -- ---- one more turn at the end
 
@@ -309,10 +309,10 @@ module _ {C K : Type 0} (gives : C → ℕ → C → Type 0) (k : Ghosts K) wher
 
       -- it reads on in its next message
       pub read_on_more : (left reader : Option (List ℕ)) (keeper'' : K) → Keeps x.left left → HoldsUp k false keeper' keeper'' → LastsThrough k keeper' keeper'' mid mid
-          → SoFar gives k (set xs p (read_on x left reader)) (whose ++ p ∷ []) clock clock' keeper keeper'' s mid
+          → SoFar gives k (set xs p (reads_on x left reader)) (whose ++ p ∷ []) clock clock' keeper keeper'' s mid
       read_on_more left reader keeper'' keeps held lasts =
-          moves_more xs p d (read_on x left reader) clock clock' clock' keeper keeper' keeper'' s mid mid lt f
-          (subst (λ (y : Sitting). Moves y (read_on x left reader) clock' clock' keeper' keeper'' mid mid) (sym at) (record {
+          moves_more xs p d (reads_on x left reader) clock clock' clock' keeper keeper' keeper'' s mid mid lt f
+          (subst (λ (y : Sitting). Moves y (reads_on x left reader) clock' clock' keeper' keeper'' mid mid) (sym at) (record {
             acts = [];
             moments = [];
             told = refl;
@@ -320,12 +320,12 @@ module _ {C K : Type 0} (gives : C → ℕ → C → Type 0) (k : Ghosts K) wher
             one_moment = omega arith;
             took = omega arith;
             by_rules = refl;
-            moves = λ t told acted before h. sits_open (read_on x left reader) (before ++ t ∷ []) is_open
+            moves = λ t told acted before h. sits_open (reads_on x left reader) (before ++ t ∷ []) is_open
                 (read_on_sits x left reader t before told acted keeps (open_sits x before is_open h));
             marked = unmarked;
             kept = λ r now h. h;
             never_less = held_least k false keeper' keeper'' held;
-            rose = unmarked_rose (k.faults keeper') (k.faults keeper'') (read_on x left reader) unmarked;
+            rose = unmarked_rose (k.faults keeper') (k.faults keeper'') (reads_on x left reader) unmarked;
             held = λ _. held;
             lasts = λ _. lasts;
             survives = survives_through lasts;

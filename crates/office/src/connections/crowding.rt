@@ -97,8 +97,8 @@ impl<K: Keeper> Office<K> {
     ///
     /// Exactly the turns that the crowd gives are taken, in order, each by its own connection. Each tells at
     /// most one moment. One that only reads on tells none and answers nothing. The turn in which a connection
-    /// ends answers no message in full. A connection gives up only within a message that has begun. The connections that came, as they were last, are exactly those
-    /// that went and those in the slots.
+    /// ends answers no message in full. A connection gives up only within a message that has begun. The
+    /// connections that came, as they were last, are exactly those that went and those in the slots.
     pub fn serve_crowd<R: Read, W: Write, G: Crowd<R, W>, C: Clock>(
         &mut self,
         crowd: &mut G,

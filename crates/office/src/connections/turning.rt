@@ -9,7 +9,7 @@ use crate::office::Office;
 use boxes::Keeper;
 use std::io::{Read, Write};
 use std::mem;
-use wire::{Counted, Due, Feed, Seat, SessionEnd, Spare, Standing, Underway};
+use wire::{Counted, Due, Feed, MOST_HEAD, Seat, SessionEnd, Spare, Standing, Underway};
 
 /// The greatest number of messages on one connection.
 const MOST_MESSAGES: u64 = 1000;
@@ -45,16 +45,73 @@ fn turn_of(end: Option<SessionEnd>) -> Turn
 }
 
 impl<K: Keeper> Office<K> {
-    ghost use Rattle.std.specs.Prelude.{◌≡◌, [], IsSomeAnd, None, Some};
+    ghost use Rattle.std.specs.Prelude.{◌≡◌, ℕ, List, [], IsSomeAnd, None, Option, Some};
+    ghost use Rattle.std.specs.Io.KnownBytes.{Keeps, prepend_known};
+    ghost use Rattle.std.specs.Option.{ForSome};
     ghost use Rattle.boxes.specs.State.{State};
-    ghost use Rattle.wire.specs.Feeds.{given_before, stood_at};
+    ghost use Rattle.wire.specs.Feeds.{SameReader, given_before, given_of, left, place_of, reader_of, stood_at, whole_left};
+    ghost use Rattle.wire.specs.declared.feed.Place.{Place};
     ghost use Rattle.wire.specs.Seats.{left_behind};
-    ghost use Rattle.wire.specs.Underways.{IsUnderway};
+    ghost use Rattle.wire.specs.Underways.{IsBegun, IsUnderway, head_of};
     ghost use Rattle.wire.specs.Whole.{MayBegin};
     ghost use Rattle.office.specs.Connections.{MayGiveUp};
     ghost use Rattle.office.specs.Premise.{HoldsUnless, IsLeft, StaysUnstaged, WasKept};
     ghost use Rattle.office.specs.Seats.{TakesTurn, TellsTurn};
-    ghost use Rattle.office.specs.Turning.{MayEndGivingUp, StandsAside, TellsAside, TurnsTo};
+    ghost use Rattle.office.specs.Resuming.{GoesOnFrom, MayHaveLeftOff, ResumesTo, TellsResumed};
+    ghost use Rattle.office.specs.Stepping.{GoesOn, MayHaveGivenUp, StepsTo, TellsStepped};
+    ghost use Rattle.office.specs.Turning.{MayEndGivingUp, StandsAside, TellsAside, TurnsTo, WaitsBehind, WaitsWith};
+
+    // `step`, and where the feed stands if it waits.
+    fn step_on<R: Read, W: Write, C: Clock>(
+        &mut self,
+        feed: &mut Feed<'_, R>,
+        block: &mut [u8; MOST_HEAD],
+        writer: &mut Counted<W>,
+        clock: &mut C,
+    ) -> Stepped
+        requires { MayBegin (place_of feed.old) }
+        ensures same { SameReader feed.old feed.new }
+        ensures goes_on { GoesOn result feed.new }
+        ensures stands { WaitsBehind feed.new block.new result }
+        ensures steps { (s : State) → WasKept K.Keeper self.old.keeper self.new.keeper s
+            → StepsTo C.now_gives (place_of feed.old) (left R.remaining feed.old) R.remaining feed.new
+            writer.old writer.new W.contents clock.old clock.new
+            K.Keeper self.old.keeper self.new.keeper s block.new result }
+        ensures faults { TellsStepped result
+            (reader_of feed.old) (reader_of feed.new) writer.old writer.new }
+        ensures unstaged { StaysUnstaged K.Keeper self.old.keeper self.new.keeper }
+        ensures rest { HoldsUnless K.Keeper self.old.keeper self.new.keeper
+            (MayHaveGivenUp K.Keeper self.old.keeper self.new.keeper result) }
+    {
+        self.step(feed, block, writer, clock)
+    }
+
+    // `resume`, and where the feed stands if it waits.
+    fn resume_on<R: Read, W: Write, C: Clock>(
+        &mut self,
+        feed: &mut Feed<'_, R>,
+        underway: Underway,
+        writer: &mut Counted<W>,
+        clock: &mut C,
+    ) -> Resumed
+        requires { IsBegun (head_of underway) underway.size underway.kept (place_of feed.old) (given_of feed.old) }
+        ensures same { SameReader feed.old feed.new }
+        ensures goes_on { GoesOnFrom result feed.new }
+        ensures stands { WaitsWith feed.new result }
+        ensures steps { (s : State) (p : Place) (known : Option (List ℕ))
+            → WasKept K.Keeper self.old.keeper self.new.keeper s
+            → Keeps known (prepend_known (head_of underway) (whole_left R.remaining feed.old))
+            → ResumesTo C.now_gives p known R.remaining feed.new
+            writer.old writer.new W.contents clock.old clock.new
+            K.Keeper self.old.keeper self.new.keeper s result }
+        ensures faults { TellsResumed result
+            (reader_of feed.old) (reader_of feed.new) writer.old writer.new }
+        ensures unstaged { StaysUnstaged K.Keeper self.old.keeper self.new.keeper }
+        ensures rest { HoldsUnless K.Keeper self.old.keeper self.new.keeper
+            (MayHaveLeftOff K.Keeper self.old.keeper self.new.keeper result) }
+    {
+        self.resume(feed, underway, writer, clock)
+    }
 
     // Begins with the next message of a connection.
     fn begin<R: Read, W: Write, C: Clock>(
@@ -82,7 +139,7 @@ impl<K: Keeper> Office<K> {
         } = due;
         let mut text = text;
         let mut feed = Feed::resume(standing, buffer, most, reader);
-        let stepped = self.step(&mut feed, &mut text, writer, clock);
+        let stepped = self.step_on(&mut feed, &mut text, writer, clock);
         let (standing, buffer) = feed.set_aside();
         feed.into_reader();
         match stepped {
@@ -143,7 +200,7 @@ impl<K: Keeper> Office<K> {
             buffer, text, most, ..
         } = due;
         let mut feed = Feed::resume(standing, buffer, most, reader);
-        let resumed = self.resume(&mut feed, underway, writer, clock);
+        let resumed = self.resume_on(&mut feed, underway, writer, clock);
         let (standing, buffer) = feed.set_aside();
         feed.into_reader();
         let spare = Spare {
@@ -163,6 +220,35 @@ impl<K: Keeper> Office<K> {
                 spare,
                 turn: Turn::ReadOn,
             },
+        }
+    }
+
+    // A turn of a connection whose feed was set aside.
+    fn turn_aside<R: Read, W: Write, C: Clock>(
+        &mut self,
+        standing: Standing,
+        underway: Option<Underway>,
+        due: Due,
+        reader: &mut Counted<R>,
+        writer: &mut Counted<W>,
+        clock: &mut C,
+    ) -> Aside
+        requires begins { underway ≡ None → MayBegin (stood_at standing) }
+        requires none { underway ≡ None → given_before standing ≡ [] }
+        requires goes_on { ForSome underway (λ u. IsUnderway u standing) }
+        ensures stands { StandsAside result.turn result }
+        ensures turns { (s : State) → WasKept K.Keeper self.old.keeper self.new.keeper s
+            → TurnsTo C.now_gives (left_behind underway standing (R.remaining reader.old.inner)) R.remaining reader.new
+            writer.old writer.new W.contents clock.old clock.new
+            K.Keeper self.old.keeper self.new.keeper s result result.turn }
+        ensures faults { TellsAside result.turn reader.old reader.new writer.old writer.new }
+        ensures unstaged { StaysUnstaged K.Keeper self.old.keeper self.new.keeper }
+        ensures rest { HoldsUnless K.Keeper self.old.keeper self.new.keeper
+            (MayEndGivingUp K.Keeper self.old.keeper self.new.keeper result.turn) }
+    {
+        match underway {
+            None => self.begin(standing, due, reader, writer, clock),
+            Some(underway) => self.go_on(standing, underway, due, reader, writer, clock),
         }
     }
 
@@ -187,7 +273,7 @@ impl<K: Keeper> Office<K> {
         ensures rest { HoldsUnless K.Keeper self.old.keeper self.new.keeper
             (IsSomeAnd seat.new.end (MayGiveUp K.Keeper self.old.keeper self.new.keeper)) }
     {
-        if seat.end.is_some() {
+        if seat.end().is_some() {
             return due.spare();
         }
         if seat.served >= MOST_MESSAGES {
@@ -196,13 +282,9 @@ impl<K: Keeper> Office<K> {
             return due.spare();
         }
         let standing = mem::replace(&mut seat.standing, Standing::new(self.alloc));
-        let aside = match seat.underway.take() {
-            None => self.begin(standing, due, &mut seat.reader, &mut seat.writer, clock),
-            Some(underway) => {
-                let (reader, writer) = (&mut seat.reader, &mut seat.writer);
-                self.go_on(standing, underway, due, reader, writer, clock)
-            }
-        };
+        let underway = seat.underway.take();
+        let (reader, writer) = (&mut seat.reader, &mut seat.writer);
+        let aside = self.turn_aside(standing, underway, due, reader, writer, clock);
         seat.standing = aside.standing;
         seat.underway = aside.underway;
         match aside.turn {
