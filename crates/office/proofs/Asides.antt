@@ -22,8 +22,8 @@ use Rattle.wire.proofs.Ties.{none_is, some_is}
 use Rattle.office.specs.Connections.{MayGiveUp}
 use Rattle.office.specs.Premise.{HoldsUnless}
 use Rattle.office.specs.Resuming.{GoesOnFrom}
-use Rattle.office.specs.Stepping.{GoesOn, Steps, TellsStep}
-use Rattle.office.specs.Turning.{MayEndGivingUp, StandsAside, TellsAside, TurnsTo, WaitsBehind, turn_of}
+use Rattle.office.specs.Stepping.{GoesOn, Steps, TellsStep, WaitsBehind}
+use Rattle.office.specs.Turning.{MayEndGivingUp, StandsAside, TellsAside, TurnsTo, turn_of}
 use Rattle.office.specs.declared.connections.resuming.Resumed.TheVariants as resumed
 use Rattle.office.specs.declared.connections.stepping.Begun.{Begun}
 use Rattle.office.specs.declared.connections.stepping.Stepped.TheVariants as stepped

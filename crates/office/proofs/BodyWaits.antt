@@ -84,26 +84,22 @@ readable_head text a b x y n o m p r =
     let r : IsReadable (request_of p.head x []) = subst (λ (h : RequestHead). IsReadable (request_of h x [])) same r in
     record { served = r.served; path = r.path; params = r.params; target = r.target; named = r.named }
 
-module _ {R K : Type 0} (remaining : R → Option (List ℕ)) (k : Ghosts K) (size : ℕ) (old new : Feed R) (s : State) (known : Option (List ℕ)) (foreseen : Result Prospect Refusal) (to_head : Bool) {text : List ℕ}
-    (x : IsExpected s size known (whole_left remaining old) foreseen to_head text) where
+module _ {R K : Type 0} (remaining : R → Option (List ℕ)) (k : Ghosts K) (size : ℕ) (old new : Feed R) (foreseen : Result Prospect Refusal) {text : List ℕ} {has_length : Bool} (o : Opens text has_length size)
+    (read : IsUpload foreseen → IsReadable (request_of o.head has_length [])) where
   -- what is kept of the body
   kept_so : (kept : Kept) (keeper : K) (sha : Sha) → IsUpload foreseen → HoldsPart k new keeper sha → kept.bytes.items ≡ given_of new → kept.sha ≡ sha → IsKept text (given_of new) kept
-  kept_so kept keeper sha upload part bytes is =
-      let body = replicate size 0 in
-      record {
-        bytes = bytes;
-        fed = subst (λ (h : Sha). ∥ ShaHolds h (given_of new) ∥₁) (sym is) part.fed;
-        readable = λ has_length n o.
-            ∣ readable_head text x.opening.opens.head o.head x.has_length has_length size x.opening.opens n o
-                (upload_readable s x.opening.opens.head x.has_length body [] foreseen (x.foresees body (length-replicate size 0)) upload) ∣₁;
-      }
+  kept_so kept keeper sha upload part bytes is = record {
+    bytes = bytes;
+    fed = subst (λ (h : Sha). ∥ ShaHolds h (given_of new) ∥₁) (sym is) part.fed;
+    readable = λ other n p. ∣ readable_head text o.head p.head has_length other size o n p (read upload) ∣₁;
+  }
 
   -- a message has begun, and its body waits
-  pub begun_so : (kept : Option Kept) (upload : Bool) (keeper : K) (sha : Sha) → WaitsWithin remaining size old new → (IsTrue upload → IsUpload foreseen) → (ForSome kept (λ _. IsTrue upload))
+  pub begun_from : (kept : Option Kept) (upload : Bool) (keeper : K) (sha : Sha) → WaitsWithin remaining size old new → (IsTrue upload → IsUpload foreseen) → (ForSome kept (λ _. IsTrue upload))
       → (IsTrue upload → HoldsPart k new keeper sha) → ForSome kept (λ x. (given : List ℕ) → k.stages keeper given → (x.bytes.items ≡ given) × (x.sha ≡ sha))
       → IsBegun text size kept (place_of new) (given_of new)
-  begun_so kept upload keeper sha w is some part told = record {
-    whole = ∣ (x.has_length, x.opening.opens) ∣₁;
+  begun_from kept upload keeper sha w is some part told = record {
+    whole = ∣ (has_length, o) ∣₁;
     fits = w.stands.fits;
     stands = w.stands.open_still;
     holds = λ y at.
@@ -112,6 +108,17 @@ module _ {R K : Type 0} (remaining : R → Option (List ℕ)) (k : Ghosts K) (si
         let t = told y at (given_of new) held.staged in
         kept_so y keeper sha (is up) held t.0 t.1;
   }
+
+module _ {R K : Type 0} (remaining : R → Option (List ℕ)) (k : Ghosts K) (size : ℕ) (old new : Feed R) (s : State) (known : Option (List ℕ)) (foreseen : Result Prospect Refusal) (to_head : Bool) {text : List ℕ}
+    (x : IsExpected s size known (whole_left remaining old) foreseen to_head text) where
+  -- the same for a message that was foreseen in a state
+  pub begun_so : (kept : Option Kept) (upload : Bool) (keeper : K) (sha : Sha) → WaitsWithin remaining size old new → (IsTrue upload → IsUpload foreseen) → (ForSome kept (λ _. IsTrue upload))
+      → (IsTrue upload → HoldsPart k new keeper sha) → ForSome kept (λ x. (given : List ℕ) → k.stages keeper given → (x.bytes.items ≡ given) × (x.sha ≡ sha))
+      → IsBegun text size kept (place_of new) (given_of new)
+  begun_so =
+      let body = replicate size 0 in
+      begun_from remaining k size old new foreseen x.opening.opens
+      (upload_readable s x.opening.opens.head x.has_length body [] foreseen (x.foresees body (length-replicate size 0)))
 
 -- ---- small facts
 

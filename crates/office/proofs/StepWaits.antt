@@ -9,7 +9,7 @@ use Rattle.wire.specs.Underways.{IsBegun}
 use Rattle.wire.specs.declared.counted.Counted.{Counted}
 use Rattle.wire.specs.declared.feed.Feed.{Feed}
 use Rattle.wire.specs.declared.feed.Place.{Place}
-use Rattle.office.specs.Stepping.{HasHeadOf, MayHaveGivenUp, ReadsOn, StandsBy, StepsTo}
+use Rattle.office.specs.Stepping.{HasHeadOf, MayHaveGivenUp, ReadsOn, StandsBy, StepsTo, WaitsBehind}
 use Rattle.office.specs.declared.connections.stepping.Begun.{Begun}
 use Rattle.office.specs.declared.connections.stepping.Stepped.{Stepped}
 use Rattle.office.specs.declared.connections.stepping.Stepped.TheVariants as stepped
@@ -27,6 +27,14 @@ read_in remaining known feed head block len (Some b) at all long (short, is, kep
       subst (λ (text : List ℕ). IsBegun text b.size b.kept (place_of feed) (given_of feed)) same is,
       subst (λ (text : List ℕ). Keeps known (prepend_known text (whole_left remaining feed))) same kept,
     )
+
+-- a feed that waits behind a head waits behind the block whose front it is
+pub waits_in_block : {R : Type 0} (feed : Feed R) (head block : List ℕ) (len : ℕ) (result : Stepped) → take len block ≡ head → take len head ≡ head → HasHeadOf len result → WaitsBehind feed head result → WaitsBehind feed block result
+waits_in_block feed head block len (stepped.Done e) at all long w = w
+waits_in_block feed head block len (stepped.Waits None) at all long w = w
+waits_in_block feed head block len (stepped.Waits (Some b)) at all long (short, is) =
+    let same : take b.len head ≡ take b.len block = ap (λ (n : ℕ). take n head) long ∙ all ∙ sym at ∙ ap (λ (n : ℕ). take n block) (sym long) in
+    (short, subst (λ (text : List ℕ). IsBegun text b.size b.kept (place_of feed) (given_of feed)) same is)
 
 module _ {C K R W : Type 0} (gives : C → ℕ → C → Type 0) (p : Place) (known : Option (List ℕ)) (remaining : R → Option (List ℕ)) (feed : Feed R) (writer writer' : Counted W) (contents : W → Option (List ℕ)) (clock clock' : C) (k : Ghosts K) where
   pub steps_in : (keeper keeper' : K) (s : State) (head block : List ℕ) (len : ℕ) (result : Stepped) → take len block ≡ head → take len head ≡ head → HasHeadOf len result

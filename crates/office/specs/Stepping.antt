@@ -115,6 +115,14 @@ ReadsOn remaining known feed block (Some b) =
     (b.len ≤ most_head) × IsBegun (take b.len block) b.size b.kept (place_of feed) (given_of feed)
     × Keeps known (prepend_known (take b.len block) (whole_left remaining feed))
 
+-- A feed that waits stands between two messages, or within the body of the one that has begun, whose head is at
+-- the front of the block.
+abbrev pub WaitsBehind : {R : Type 0} → Feed R → List ℕ → Stepped → Type 0
+WaitsBehind feed block (stepped.Done e) = ⊤
+WaitsBehind feed block (stepped.Waits None) = (place_of feed ≡ place.Between) × (given_of feed ≡ [])
+WaitsBehind feed block (stepped.Waits (Some b)) =
+    (b.len ≤ most_head) × IsBegun (take b.len block) b.size b.kept (place_of feed) (given_of feed)
+
 -- A step is done, or it waits. block: what is at the front of the block if it waits.
 abbrev pub StepsTo : {C K R W : Type 0} → (C → ℕ → C → Type 0) → Place → Option (List ℕ) → (R → Option (List ℕ)) → Feed R → Counted W → Counted W → (W → Option (List ℕ))
     → C → C → Ghosts K → K → K → State → List ℕ → Stepped → Type 0

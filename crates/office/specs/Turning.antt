@@ -1,8 +1,7 @@
 -- What one turn makes of a connection's feed, which is set aside before and after.
-use Rattle.std.specs.Prelude.{◌≡◌, ◌≤◌, ℕ, List, [], take, Option, None, Some, IsSomeAnd, ⊤}
+use Rattle.std.specs.Prelude.{◌≡◌, ℕ, List, [], Option, None, Some, IsSomeAnd, ⊤}
 use Rattle.std.specs.Option.{ForSome}
 use Rattle.std.specs.Io.KnownBytes.{Keeps}
-use Rattle.sigtext.specs.Limits.{most_head}
 use Rattle.boxes.specs.State.{State}
 use Rattle.boxes.specs.declared.keep.Keeper.{Ghosts}
 use Rattle.wire.specs.Feeds.{given_before, given_of, place_of, stood_at}
@@ -16,8 +15,6 @@ use Rattle.office.specs.Connections.{MayGiveUp}
 use Rattle.office.specs.Stepping.{StandsBy, Steps, TellsStep}
 use Rattle.office.specs.declared.connections.resuming.Resumed.{Resumed}
 use Rattle.office.specs.declared.connections.resuming.Resumed.TheVariants as resumed
-use Rattle.office.specs.declared.connections.stepping.Stepped.{Stepped}
-use Rattle.office.specs.declared.connections.stepping.Stepped.TheVariants as stepped
 use Rattle.office.specs.declared.connections.turning.Aside.{Aside}
 use Rattle.office.specs.declared.connections.turning.Turn.{Turn}
 use Rattle.office.specs.declared.connections.turning.Turn.TheVariants as turn
@@ -33,15 +30,7 @@ end_in turn.Answered = None
 end_in (turn.Ended e) = Some e
 end_in turn.ReadOn = None
 
--- A feed that waits stands between two messages, or within the body of the one that has begun, whose head is at
--- the front of the block.
-abbrev pub WaitsBehind : {R : Type 0} → Feed R → List ℕ → Stepped → Type 0
-WaitsBehind feed block (stepped.Done e) = ⊤
-WaitsBehind feed block (stepped.Waits None) = (place_of feed ≡ place.Between) × (given_of feed ≡ [])
-WaitsBehind feed block (stepped.Waits (Some b)) =
-    (b.len ≤ most_head) × IsBegun (take b.len block) b.size b.kept (place_of feed) (given_of feed)
-
--- the same for a step that went on with a message
+-- a feed that waits stands within the body of the message that it went on with
 abbrev pub WaitsWith : {R : Type 0} → Feed R → Resumed → Type 0
 WaitsWith feed (resumed.Done e) = ⊤
 WaitsWith feed (resumed.Waits u) = IsBegun (head_of u) u.size u.kept (place_of feed) (given_of feed)

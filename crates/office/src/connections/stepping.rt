@@ -65,11 +65,14 @@ pub(crate) fn end_of(handled: Handled) -> Option<SessionEnd>
 }
 
 impl<K: Keeper> Office<K> {
-    ghost use Rattle.std.specs.Prelude.{◌≡◌, ◌≢◌, ◌⊎◌, ◌≤◌, ℕ, List, [], length, Err, IsTrue, Option};
+    ghost use Rattle.std.specs.Prelude.{◌≡◌, ◌≢◌, ◌⊎◌, ◌≤◌, ℕ, Bool, List, [], length, Err, IsTrue, Option};
     ghost use Rattle.sigtext.specs.Counts.{Rose};
+    ghost use Rattle.sigtext.specs.Readable.{IsReadable};
     ghost use Rattle.sigtext.specs.Request.{Request};
     ghost use Rattle.boxes.specs.State.{State};
+    ghost use Rattle.wire.specs.Feeding.{Opens};
     ghost use Rattle.wire.specs.Feeds.{SameReader, given_of, left, place_of, reader_of};
+    ghost use Rattle.wire.specs.Framing.{request_of};
     ghost use Rattle.wire.specs.Openings.{ArePartsOf};
     ghost use Rattle.wire.specs.Whole.{IsOpening, MayBegin};
     ghost use Rattle.wire.specs.declared.feed.Place.{Place};
@@ -80,7 +83,7 @@ impl<K: Keeper> Office<K> {
     ghost use Rattle.office.specs.Frames.{Quiet};
     ghost use Rattle.office.specs.Handling.{Handles, MayBeGivenUp};
     ghost use Rattle.office.specs.Premise.{EndsUnstaged, HoldsUnless, StaysUnstaged, WasKept};
-    ghost use Rattle.office.specs.Stepping.{GoesOn, HasHeadOf, IsExpected, LeavesOff, MayHaveGivenUp, NeverStandsBy, StepsTo, TellsStepped};
+    ghost use Rattle.office.specs.Stepping.{GoesOn, HasHeadOf, IsExpected, LeavesOff, MayHaveGivenUp, NeverStandsBy, StepsTo, TellsStepped, WaitsBehind};
 
     // Handles a message whose body came: takes its moment and writes its answer.
     pub(crate) fn serve_message<W: Write, C: Clock>(
@@ -157,6 +160,9 @@ impl<K: Keeper> Office<K> {
             (MayHaveGivenUp K.Keeper self.old.keeper self.new.keeper result) }
         ensures free { NeverStandsBy feed.old.backlog feed.new.backlog result }
         ensures long { HasHeadOf len result }
+        ensures stands { (head : List ℕ) (has_length : Bool) (o : Opens head has_length size)
+            → (IsUpload foreseen.entry → IsReadable (request_of o.head has_length []))
+            → len ≡ length head → WaitsBehind feed.new head result }
     {
         let upload = is_upload(&foreseen);
         let mut sha = Sha::new();
@@ -225,6 +231,8 @@ impl<K: Keeper> Office<K> {
         ensures rest { HoldsUnless K.Keeper self.old.keeper self.new.keeper
             (MayHaveGivenUp K.Keeper self.old.keeper self.new.keeper result) }
         ensures free { NeverStandsBy feed.old.backlog feed.new.backlog result }
+        ensures stands { Opens opening.now.text.now opening.now.has_length opening.now.length
+            → WaitsBehind feed.new block.new result }
     {
         let message = announce_head(opening, fields);
         let foreseen = self.foresee(&message);
@@ -260,6 +268,7 @@ impl<K: Keeper> Office<K> {
         ensures rest { HoldsUnless K.Keeper self.old.keeper self.new.keeper
             (MayHaveGivenUp K.Keeper self.old.keeper self.new.keeper result) }
         ensures free { NeverStandsBy feed.old.backlog feed.new.backlog result }
+        ensures stands { WaitsBehind feed.new block.new result }
     {
         let mut text = [0; MOST_HEAD];
         let mut fields = [NO_FIELD; MOST_FIELDS];

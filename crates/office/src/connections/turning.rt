@@ -9,7 +9,7 @@ use crate::office::Office;
 use boxes::Keeper;
 use std::io::{Read, Write};
 use std::mem;
-use wire::{Counted, Due, Feed, MOST_HEAD, Seat, SessionEnd, Spare, Standing, Underway};
+use wire::{Counted, Due, Feed, Seat, SessionEnd, Spare, Standing, Underway};
 
 /// The greatest number of messages on one connection.
 const MOST_MESSAGES: u64 = 1000;
@@ -58,33 +58,7 @@ impl<K: Keeper> Office<K> {
     ghost use Rattle.office.specs.Premise.{HoldsUnless, IsLeft, StaysUnstaged, WasKept};
     ghost use Rattle.office.specs.Seats.{TakesTurn, TellsTurn};
     ghost use Rattle.office.specs.Resuming.{GoesOnFrom, MayHaveLeftOff, ResumesTo, TellsResumed};
-    ghost use Rattle.office.specs.Stepping.{GoesOn, MayHaveGivenUp, StepsTo, TellsStepped};
-    ghost use Rattle.office.specs.Turning.{MayEndGivingUp, StandsAside, TellsAside, TurnsTo, WaitsBehind, WaitsWith};
-
-    // `step`, and where the feed stands if it waits.
-    fn step_on<R: Read, W: Write, C: Clock>(
-        &mut self,
-        feed: &mut Feed<'_, R>,
-        block: &mut [u8; MOST_HEAD],
-        writer: &mut Counted<W>,
-        clock: &mut C,
-    ) -> Stepped
-        requires { MayBegin (place_of feed.old) }
-        ensures same { SameReader feed.old feed.new }
-        ensures goes_on { GoesOn result feed.new }
-        ensures stands { WaitsBehind feed.new block.new result }
-        ensures steps { (s : State) → WasKept K.Keeper self.old.keeper self.new.keeper s
-            → StepsTo C.now_gives (place_of feed.old) (left R.remaining feed.old) R.remaining feed.new
-            writer.old writer.new W.contents clock.old clock.new
-            K.Keeper self.old.keeper self.new.keeper s block.new result }
-        ensures faults { TellsStepped result
-            (reader_of feed.old) (reader_of feed.new) writer.old writer.new }
-        ensures unstaged { StaysUnstaged K.Keeper self.old.keeper self.new.keeper }
-        ensures rest { HoldsUnless K.Keeper self.old.keeper self.new.keeper
-            (MayHaveGivenUp K.Keeper self.old.keeper self.new.keeper result) }
-    {
-        self.step(feed, block, writer, clock)
-    }
+    ghost use Rattle.office.specs.Turning.{MayEndGivingUp, StandsAside, TellsAside, TurnsTo, WaitsWith};
 
     // `resume`, and where the feed stands if it waits.
     fn resume_on<R: Read, W: Write, C: Clock>(
@@ -139,7 +113,7 @@ impl<K: Keeper> Office<K> {
         } = due;
         let mut text = text;
         let mut feed = Feed::resume(standing, buffer, most, reader);
-        let stepped = self.step_on(&mut feed, &mut text, writer, clock);
+        let stepped = self.step(&mut feed, &mut text, writer, clock);
         let (standing, buffer) = feed.set_aside();
         feed.into_reader();
         match stepped {

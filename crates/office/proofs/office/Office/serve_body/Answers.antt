@@ -8,7 +8,7 @@ use Rattle.office.specs.Stepping.{IsExpected, Steps, TellsStep}
 use Rattle.office.specs.declared.requests.foreseeing.Body.{Body}
 use Rattle.office.specs.declared.connections.receiving.Received.TheVariants as received
 use Rattle.office.proofs.BodySteps.{broken_off_step, came_whole, given_up_step, lacking_step, whole_step}
-use Rattle.office.proofs.BodyWaits.{begun_so, either_way, expected_first, part_first, short_head, some_is, stands_by, stands_first, taken_all, waits_kept, waits_not_gave_up, whole_left_first}
+use Rattle.office.proofs.BodyWaits.{begun_from, begun_so, either_way, expected_first, part_first, short_head, some_is, stands_by, stands_first, taken_all, waits_kept, waits_not_gave_up, whole_left_first}
 use Rattle.office.proofs.Stagings.{nothing_read}
 use Rattle.office.proofs.Endings.{broken_not_gave_up, lacking_not_gave_up, whole_not_gave_up}
 use Rattle.office.specs.Frames.{Quiet}
@@ -123,3 +123,16 @@ returns-in-Waits-clause-steps g c s p known head kept x len =
       (short_head y.opening.opens len, rw (taken_all head len) begun, rw (taken_all head len) (waits_kept known _ _ head y.opening.front waits.kept)),
       stands_by all kept,
     )
+
+pub returns-in-Waits-clause-stands : goal.returns-in-Waits-clause-stands
+returns-in-Waits-clause-stands g c head has_length o readable len =
+    let r = c.in-Waits.ensures in
+    let took = c.receive.new in
+    let keeps = c.keep-kept.ensures in
+    let began = c.begin_staging.new.self.keeper in
+    let is_ok = c.is_err.ensures.value in
+    let held = λ (up : IsTrue c.is_upload-upload.result). part_first c.args.feed.now c.requires.none g.K.Keeper began c.new-sha.result (on_ok (g.K.Keeper.stages began []) c.is_err.result c.begin_staging.result is_ok c.if-is_err.false (c.begin_staging.ensures.staged up)) c.new-sha.ensures in
+    let waits = either_way c.is_upload-upload.result r.passes (λ up. (r.stages up (held up)).0) in
+    let begun = begun_from g.R.Read.remaining g.K.Keeper c.args.size c.args.feed.now took.feed c.args.foreseen o readable c.keep-kept.result c.is_upload-upload.result took.self.keeper took.sha waits c.is_upload-upload.ensures.0
+        (λ k at. keeps.some.1 (some_is c.keep-kept.result k at)) (λ up. (r.stages up (held up)).1) keeps.kept in
+    (short_head o len, rw (taken_all head len) begun)

@@ -12,12 +12,13 @@ use Rattle.office.specs.Premise.{IsGivenUp}
 use Rattle.sigtext.specs.Readable.{IsReadable}
 use Rattle.office.specs.Stepping.{IsExpected}
 use Rattle.office.proofs.BodySteps.{head_given_up_step}
+use Rattle.office.proofs.Foreseen.{upload_readable}
 use Rattle.office.proofs.Handlings.{read_given_up, same_request, closed_again}
 use Rattle.office.proofs.Holding.{holds_less, holds_then}
 use Rattle.office.specs.Frames.{Quiet}
 use Rattle.office.proofs.BodyWaits.{taken_all}
 use Rattle.office.proofs.SessionSteps.{before_quiet}
-use Rattle.office.proofs.StepWaits.{copied_front, given_up_later, steps_in, steps_later}
+use Rattle.office.proofs.StepWaits.{copied_front, given_up_later, steps_in, steps_later, waits_in_block}
 use Rattle.office.proofs.Unstaged.{ends_later}
 use Rattle.office.proofs.office.Office.serve_head.Goals as goal
 
@@ -74,3 +75,15 @@ pub returns-clause-rest : goal.returns-clause-rest
 returns-clause-rest g c =
     holds_then (holds_less (λ is. both_ways c.is_given_up.result c.if-is_given_up.false (c.is_given_up.ensures.1 is)) c.foresee-foreseen.ensures.looks.quiet.rest)
     (holds_less (given_up_later g.K.Keeper c.args.self.now.keeper c.foresee-foreseen.new.self.keeper c.serve_body.new.self.keeper c.serve_body.result c.foresee-foreseen.ensures.looks.quiet.rest.never_less) c.serve_body.ensures.rest)
+
+pub returns-clause-stands : goal.returns-clause-stands
+returns-clause-stands g c o =
+    let f = c.requires.parts in
+    let text = c.args.opening.now.text.now in
+    let headers = map header_of (take c.args.opening.now.head.count c.args.fields.now) in
+    let same : request_with c.announce_head-message.result [] ≡ request_of o.head c.args.opening.now.has_length [] =
+    c.announce_head-message.ensures.request [] ∙ same_request text f.0 o.head c.args.opening.now.head.method.now c.args.opening.now.head.target.now headers c.args.opening.now.has_length [] f.1 o.tells.is_head f.2 f.3 f.5 in
+    waits_in_block c.serve_body.new.feed text (c.copy_from_slice.new.self ++ drop (length text) c.args.block.now) (length text) c.serve_body.result
+    (copied_front text _ _ (ap (λ (l : List ℕ). l ++ drop (length text) c.args.block.now) c.copy_from_slice.ensures.after)) (taken_all text refl) c.serve_body.ensures.long
+    (c.serve_body.ensures.stands text c.args.opening.now.has_length o
+    (λ up. subst IsReadable same (upload_readable (request_with c.announce_head-message.result []) c.foresee-foreseen.result up (c.foresee-foreseen.ensures.readable []))) refl)

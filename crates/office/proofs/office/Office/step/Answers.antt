@@ -62,3 +62,15 @@ returns-in-Err-Waits-clause-steps g c s kept =
     let b = broke_off_by (place_of c.args.feed.now) (left g.R.Read.remaining c.args.feed.now) (left g.R.Read.remaining c.read_opening.new.feed) (g.R.Read.remaining (reader_of c.read_opening.new.feed).inner) (place_of c.read_opening.new.feed)
         c.in-Err-Waits.field-0 fault.Waits c.in-Err-Waits.field-0-is c.in-Err-Waits.ensures.fault in
     ((b.0, c.read_opening.ensures.given, b.1), stands_by quiet_still kept)
+
+pub returns-in-Ok-Head-clause-stands : goal.returns-in-Ok-Head-clause-stands
+returns-in-Ok-Head-clause-stands g c =
+    let b = brought_by c.read_opening.new.fields (left g.R.Read.remaining c.args.feed.now) (left g.R.Read.remaining c.read_opening.new.feed) (g.R.Read.remaining (reader_of c.read_opening.new.feed).inner)
+    (place_of c.read_opening.new.feed) c.in-Ok-Head.field-0 (came.Head c.in-Ok-Head.opening) c.in-Ok-Head.field-0-is c.in-Ok-Head.ensures.brings in
+    c.serve_head.ensures.stands b.1.opens
+
+pub returns-in-Err-Waits-clause-stands : goal.returns-in-Err-Waits-clause-stands
+returns-in-Err-Waits-clause-stands g c =
+    let b = broke_off_by (place_of c.args.feed.now) (left g.R.Read.remaining c.args.feed.now) (left g.R.Read.remaining c.read_opening.new.feed) (g.R.Read.remaining (reader_of c.read_opening.new.feed).inner) (place_of c.read_opening.new.feed)
+        c.in-Err-Waits.field-0 fault.Waits c.in-Err-Waits.field-0-is c.in-Err-Waits.ensures.fault in
+    (b.0, c.read_opening.ensures.given)
