@@ -69,3 +69,8 @@ MayHaveLeftOff k old new (resumed.Waits u) = ⊥
 abbrev pub NeverLeaves : Backlog → Backlog → Resumed → Type 0
 NeverLeaves old new (resumed.Done e) = IsFree old → IsFree new
 NeverLeaves old new (resumed.Waits u) = IsFree old → ⊥
+
+-- a feed that waits stands within the body of the message that it went on with
+abbrev pub WaitsWith : {R : Type 0} → Feed R → Resumed → Type 0
+WaitsWith feed (resumed.Done e) = ⊤
+WaitsWith feed (resumed.Waits u) = IsBegun (head_of u) u.size u.kept (place_of feed) (given_of feed)

@@ -1,20 +1,17 @@
 -- What one turn makes of a connection's feed, which is set aside before and after.
-use Rattle.std.specs.Prelude.{◌≡◌, ℕ, List, [], Option, None, Some, IsSomeAnd, ⊤}
+use Rattle.std.specs.Prelude.{◌≡◌, ℕ, List, [], Option, None, Some, IsSomeAnd}
 use Rattle.std.specs.Option.{ForSome}
 use Rattle.std.specs.Io.KnownBytes.{Keeps}
 use Rattle.boxes.specs.State.{State}
 use Rattle.boxes.specs.declared.keep.Keeper.{Ghosts}
-use Rattle.wire.specs.Feeds.{given_before, given_of, place_of, stood_at}
+use Rattle.wire.specs.Feeds.{given_before, stood_at}
 use Rattle.wire.specs.Seats.{left_behind}
-use Rattle.wire.specs.Underways.{IsBegun, IsUnderway, head_of}
+use Rattle.wire.specs.Underways.{IsUnderway}
 use Rattle.wire.specs.declared.counted.Counted.{Counted}
-use Rattle.wire.specs.declared.feed.Feed.{Feed}
 use Rattle.wire.specs.declared.feed.Place.TheVariants as place
 use Rattle.wire.specs.declared.session.SessionEnd.{SessionEnd}
 use Rattle.office.specs.Connections.{MayGiveUp}
 use Rattle.office.specs.Stepping.{StandsBy, Steps, TellsStep}
-use Rattle.office.specs.declared.connections.resuming.Resumed.{Resumed}
-use Rattle.office.specs.declared.connections.resuming.Resumed.TheVariants as resumed
 use Rattle.office.specs.declared.connections.turning.Aside.{Aside}
 use Rattle.office.specs.declared.connections.turning.Turn.{Turn}
 use Rattle.office.specs.declared.connections.turning.Turn.TheVariants as turn
@@ -29,11 +26,6 @@ abbrev pub end_in : Turn → Option SessionEnd
 end_in turn.Answered = None
 end_in (turn.Ended e) = Some e
 end_in turn.ReadOn = None
-
--- a feed that waits stands within the body of the message that it went on with
-abbrev pub WaitsWith : {R : Type 0} → Feed R → Resumed → Type 0
-WaitsWith feed (resumed.Done e) = ⊤
-WaitsWith feed (resumed.Waits u) = IsBegun (head_of u) u.size u.kept (place_of feed) (given_of feed)
 
 -- Where the feed stands after a turn: between two messages, or within the body of the one that is under way. It
 -- does not matter once the connection has ended.

@@ -84,7 +84,7 @@ impl<K: Keeper> Office<K> {
     ghost use Rattle.office.specs.Foreseeing.{AreStaged};
     ghost use Rattle.office.specs.Frames.{Quiet};
     ghost use Rattle.office.specs.Premise.{EndsUnstaged, HoldsUnless, StaysUnstaged, WasKept};
-    ghost use Rattle.office.specs.Resuming.{EndsWhole, GoesOnFrom, MayHaveLeftOff, NeverLeaves, ResumesTo, TellsResumed, TellsWhole};
+    ghost use Rattle.office.specs.Resuming.{EndsWhole, GoesOnFrom, MayHaveLeftOff, NeverLeaves, ResumesTo, TellsResumed, TellsWhole, WaitsWith};
     ghost use Rattle.office.specs.Sessions.{HasBegunMessage};
     ghost use Rattle.office.specs.Stepping.{IsClosed};
 
@@ -198,6 +198,7 @@ impl<K: Keeper> Office<K> {
         requires { IsBegun (head_of underway) underway.size underway.kept (place_of feed.old) (given_of feed.old) }
         ensures same { SameReader feed.old feed.new }
         ensures goes_on { GoesOnFrom result feed.new }
+        ensures stands { WaitsWith feed.new result }
         ensures steps { (s : State) (p : Place) (known : Option (List ℕ))
             → WasKept K.Keeper self.old.keeper self.new.keeper s
             → Keeps known (prepend_known (head_of underway) (whole_left R.remaining feed.old))

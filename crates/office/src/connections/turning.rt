@@ -45,47 +45,17 @@ fn turn_of(end: Option<SessionEnd>) -> Turn
 }
 
 impl<K: Keeper> Office<K> {
-    ghost use Rattle.std.specs.Prelude.{◌≡◌, ℕ, List, [], IsSomeAnd, None, Option, Some};
-    ghost use Rattle.std.specs.Io.KnownBytes.{Keeps, prepend_known};
+    ghost use Rattle.std.specs.Prelude.{◌≡◌, [], IsSomeAnd, None, Option, Some};
     ghost use Rattle.std.specs.Option.{ForSome};
     ghost use Rattle.boxes.specs.State.{State};
-    ghost use Rattle.wire.specs.Feeds.{SameReader, given_before, given_of, left, place_of, reader_of, stood_at, whole_left};
-    ghost use Rattle.wire.specs.declared.feed.Place.{Place};
+    ghost use Rattle.wire.specs.Feeds.{given_before, stood_at};
     ghost use Rattle.wire.specs.Seats.{left_behind};
-    ghost use Rattle.wire.specs.Underways.{IsBegun, IsUnderway, head_of};
+    ghost use Rattle.wire.specs.Underways.{IsUnderway};
     ghost use Rattle.wire.specs.Whole.{MayBegin};
     ghost use Rattle.office.specs.Connections.{MayGiveUp};
     ghost use Rattle.office.specs.Premise.{HoldsUnless, IsLeft, StaysUnstaged, WasKept};
     ghost use Rattle.office.specs.Seats.{TakesTurn, TellsTurn};
-    ghost use Rattle.office.specs.Resuming.{GoesOnFrom, MayHaveLeftOff, ResumesTo, TellsResumed};
-    ghost use Rattle.office.specs.Turning.{MayEndGivingUp, StandsAside, TellsAside, TurnsTo, WaitsWith};
-
-    // `resume`, and where the feed stands if it waits.
-    fn resume_on<R: Read, W: Write, C: Clock>(
-        &mut self,
-        feed: &mut Feed<'_, R>,
-        underway: Underway,
-        writer: &mut Counted<W>,
-        clock: &mut C,
-    ) -> Resumed
-        requires { IsBegun (head_of underway) underway.size underway.kept (place_of feed.old) (given_of feed.old) }
-        ensures same { SameReader feed.old feed.new }
-        ensures goes_on { GoesOnFrom result feed.new }
-        ensures stands { WaitsWith feed.new result }
-        ensures steps { (s : State) (p : Place) (known : Option (List ℕ))
-            → WasKept K.Keeper self.old.keeper self.new.keeper s
-            → Keeps known (prepend_known (head_of underway) (whole_left R.remaining feed.old))
-            → ResumesTo C.now_gives p known R.remaining feed.new
-            writer.old writer.new W.contents clock.old clock.new
-            K.Keeper self.old.keeper self.new.keeper s result }
-        ensures faults { TellsResumed result
-            (reader_of feed.old) (reader_of feed.new) writer.old writer.new }
-        ensures unstaged { StaysUnstaged K.Keeper self.old.keeper self.new.keeper }
-        ensures rest { HoldsUnless K.Keeper self.old.keeper self.new.keeper
-            (MayHaveLeftOff K.Keeper self.old.keeper self.new.keeper result) }
-    {
-        self.resume(feed, underway, writer, clock)
-    }
+    ghost use Rattle.office.specs.Turning.{MayEndGivingUp, StandsAside, TellsAside, TurnsTo};
 
     // Begins with the next message of a connection.
     fn begin<R: Read, W: Write, C: Clock>(
@@ -174,7 +144,7 @@ impl<K: Keeper> Office<K> {
             buffer, text, most, ..
         } = due;
         let mut feed = Feed::resume(standing, buffer, most, reader);
-        let resumed = self.resume_on(&mut feed, underway, writer, clock);
+        let resumed = self.resume(&mut feed, underway, writer, clock);
         let (standing, buffer) = feed.set_aside();
         feed.into_reader();
         let spare = Spare {

@@ -235,6 +235,20 @@ returns-in-Waits-clause-steps g c s p known was kept =
       stands_by quiet was,
     )
 
+pub returns-in-Waits-clause-stands : goal.returns-in-Waits-clause-stands
+returns-in-Waits-clause-stands g c =
+    let r = c.in-Waits.ensures in
+    let put = c.put_back-sha.ensures in
+    let is = c.is_some-is_kept in
+    let took = c.receive.new in
+    let size = c.args.underway.size in
+    let keeps = c.keep-kept.ensures in
+    let head = head_of c.args.underway in
+    let part = part_of g.K.Keeper head c.args.feed.now c.args.underway.kept is.result c.put_back-sha.new.self.keeper c.put_back-sha.result is.ensures c.requires.holds put.staged put.octets put.hashed in
+    let waits = either_way is.result r.passes (λ t. (r.stages t (part t)).0) in
+    still_begun g.R.Read.remaining g.K.Keeper size c.args.feed.now took.feed head c.args.underway.kept c.requires c.keep-kept.result took.self.keeper took.sha waits
+        (λ y at. sym is.ensures ∙ keeps.some.1 (some_is c.keep-kept.result y at)) (λ some. let t = is.ensures ∙ some in (r.stages t (part t)).1) keeps.kept
+
 pub returns-in-Waits-clause-same : goal.returns-in-Waits-clause-same
 returns-in-Waits-clause-same g c = c.in-Waits.ensures.same
 
