@@ -19,9 +19,7 @@ impl<R: time::Clock, L: Listener> Book<'_, R, L> {
         index: usize,
         buffer: Option<Buffer>,
     ) -> Option<Action> {
-        if buffer.is_some() {
-            self.spare.buffer = buffer;
-        }
+        self.spare.take_back(buffer);
         let Phase::Due = self.phase(index) else {
             return self.listen_to(slots, index);
         };

@@ -61,12 +61,17 @@ impl Spare {
         }
     }
 
-    /// Takes over what the other one has.
-    pub fn take_over(&mut self, other: Spare) {
-        let Spare { buffer, text } = other;
+    /// Takes this buffer back, if there is one.
+    pub fn take_back(&mut self, buffer: Option<Buffer>) {
         if buffer.is_some() {
             self.buffer = buffer;
         }
+    }
+
+    /// Takes over what the other one has.
+    pub fn take_over(&mut self, other: Spare) {
+        let Spare { buffer, text } = other;
+        self.take_back(buffer);
         if text.is_some() {
             self.text = text;
         }

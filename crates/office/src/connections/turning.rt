@@ -221,9 +221,10 @@ impl<K: Keeper> Office<K> {
             return due.spare();
         }
         if seat.served >= MOST_MESSAGES {
+            let mut spare = due.spare();
             seat.end = Some(SessionEnd::Limit);
-            seat.standing.let_go();
-            return due.spare();
+            spare.take_back(seat.standing.let_go());
+            return spare;
         }
         let standing = mem::replace(&mut seat.standing, Standing::new(self.alloc));
         let underway = seat.underway.take();
@@ -231,14 +232,15 @@ impl<K: Keeper> Office<K> {
         let aside = self.turn_aside(standing, underway, due, reader, writer, clock);
         seat.standing = aside.standing;
         seat.underway = aside.underway;
+        let mut spare = aside.spare;
         match aside.turn {
             Turn::Answered => seat.served += 1,
             Turn::ReadOn => seat.waited = seat.waited.and(&seat.served, &seat.served),
             Turn::Ended(end) => {
                 seat.end = Some(end);
-                seat.standing.let_go();
+                spare.take_back(seat.standing.let_go());
             }
         }
-        aside.spare
+        spare
     }
 }
