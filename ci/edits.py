@@ -424,7 +424,7 @@ def settled(trials, jobs, beside, last):
                 print(f"{trial.crate.name}: {refused} of {len(group)} edits refused, {ended.result()[1]:.0f} s", flush=True)
                 yield from ((trial.crate, *it) for it in found)
             if not running:
-                time.sleep(1)
+                time.sleep(SETTLES)
     is_over = time.monotonic() > last
     for trial in trials:
         fault = NO_TIME if is_over else f"NOT TRIED: there is no library of {', '.join(trial.lacks(beside))} as it stands"

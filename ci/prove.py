@@ -1,7 +1,8 @@
-"""Proves crates with `rt ci`: each as soon as those that it stands on are proved, and as many in parallel as processors and
-memory allow. `rt ci` keeps what it proves on this machine, and a later run takes it over, also in another checkout.
+"""Proves crates by the code of `rt ci`: each as soon as those that it stands on are proved, and as many in parallel as processors
+and memory allow. Newer versions of `rt` keep what they prove on this machine, and a later run takes it over, also in another
+checkout; older ones prove everything anew.
 
-The code of `rt` does the work. Four things are different here:
+The code of `rt` does the work, and its counts are the last line. Four things are different here:
 
 - `rt` allows each check more memory than it was ever seen to take, so few run in parallel. Here it is half as much.
 - The crates with the most work behind them come first, by the seconds in ci/seconds.txt. `rt` counts lines.
@@ -20,6 +21,7 @@ import contextlib
 import heapq
 import os
 import pathlib
+import re
 import shutil
 import sys
 import tempfile
@@ -45,6 +47,10 @@ MOST_MEMORY = 0.85
 WHOLE = 0.2
 # How often the line is written anew, in seconds, and the lines that are shown of a log that ends in a failure.
 EVERY, TAIL = 1, 40
+# What a task without work gives, by its kind; any other gives True. `rt` unpacks what its task for must-fail edits gives.
+NOTHING = {"edits": ([], [], [])}
+# The line of a log that has the counts.
+COUNTS = re.compile(r"^\d+ passed, \d+ failed$", re.M)
 
 
 def known_seconds():
@@ -149,7 +155,7 @@ class Lanes:
         self.free, self.memory = RT.processors(), MOST_MEMORY * RT.free()
         self.left, self.running = [it for it in in_order(tasks) if tasks[it][1]], {}
         # a crate without tests has a task for them all the same, with no seconds
-        self.given = {it: True for it in tasks if not tasks[it][1]}
+        self.given = {it: NOTHING.get(it[1], True) for it in tasks if not tasks[it][1]}
 
     def begin(self):
         """Begins the tasks for which there is room."""
@@ -217,7 +223,8 @@ def arrange(progress, wants_program):
             seconds = known.get(key, PER_LINE * lines) if lines else 0
             ours[key] = waits, seconds, SHARE * needs, keeping(key, progress.watched(key, call))
         progress.expect(ours)
-        with RT.ending(), concurrent.futures.ThreadPoolExecutor(len(ours)) as pool:
+        ending = getattr(RT, "ending", contextlib.nullcontext)
+        with ending(), concurrent.futures.ThreadPoolExecutor(len(ours)) as pool:
             return Lanes(ours, pool).run()
 
     def keeping(key, call):
@@ -249,10 +256,48 @@ def arrange(progress, wants_program):
     RT.Crate.compile_by = compile_quickly if wants_program else compile_together
 
 
+def with_below(names):
+    """These crates and those of this repository that they stand on."""
+    stands_on = {}
+    for line in pathlib.Path("crates.txt").read_text(encoding="utf-8").splitlines():
+        if line and not line.startswith("#"):
+            name, _, below = line.partition(":")
+            stands_on[name] = below.split()
+    found, left = set(), list(names)
+    while left:
+        name = left.pop()
+        if name in stands_on and name not in found:
+            found.add(name)
+            left += stands_on[name]
+    return found
+
+
+@contextlib.contextmanager
+def copy_of(names):
+    """Works in a copy of the repository that has these crates alone, and those below them."""
+    wanted = with_below(names)
+    with tempfile.TemporaryDirectory(prefix="drop-prove-") as folder:
+        room = pathlib.Path(folder)
+        shutil.copy("HANDLES", room)
+        lines = pathlib.Path("crates.txt").read_text(encoding="utf-8").splitlines(keepends=True)
+        (room / "crates.txt").write_text("".join(it for it in lines if it.partition(":")[0] in wanted), encoding="utf-8")
+        for name in wanted:
+            shutil.copytree(f"crates/{name}", room / "crates" / name, ignore=shutil.ignore_patterns("out"))
+        os.chdir(room)
+        try:
+            yield
+        finally:
+            os.chdir(kit.ROOT)
+
+
 def proved(names):
-    """Proves the crates of these names, and those below them. Returns the status of `rt ci`."""
+    """Proves the crates of these names, and those below them; all if none is given. Returns the status of `rt ci`."""
     try:
-        return RT.where_disk_lasts(RT.ci, False, names)
+        if hasattr(RT, "where_disk_lasts"):
+            return RT.where_disk_lasts(RT.ci, False, names or [it.name for it in RT.rtlib.crates_below(str(kit.ROOT))])
+        # an older `rt` proves all that lies below the folder where it works
+        with copy_of(names) if names else contextlib.nullcontext():
+            return RT.ci()
     except SystemExit as stopped:
         return stopped.code or 2
 
@@ -268,15 +313,17 @@ def main():
     handle, log = tempfile.mkstemp(prefix="drop-prove-", suffix=".log")
     progress = Progress(log)
     arrange(progress, given.program)
-    names = given.crates or [it.name for it in RT.rtlib.crates_below(str(kit.ROOT))]
     with open(handle, "w", encoding="utf-8") as out, progress.shown():
         with contextlib.redirect_stdout(out), contextlib.redirect_stderr(out):
-            status = proved(names)
+            status = proved(given.crates)
         for key, seconds in sorted(progress.took.items(), key=lambda it: -it[1]):
             print(f"{' '.join(key)}: {seconds:.0f} s", file=out)
+    text = pathlib.Path(log).read_text(encoding="utf-8")
     if status:
-        print(*pathlib.Path(log).read_text(encoding="utf-8").splitlines()[-TAIL:], sep="\n", file=sys.stderr)
+        print(*text.splitlines()[-TAIL:], sep="\n", file=sys.stderr)
     progress.say(f"{'not proved' if status else 'proved'} in {minutes(time.monotonic() - progress.begin)}; log: {log}")
+    if not given.program:
+        print(*COUNTS.findall(text)[-1:], flush=True)
     sys.exit(status)
 
 

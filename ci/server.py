@@ -32,12 +32,13 @@ class Server:
     It has exclusive access to the office file while it runs, so links are made before.
     """
 
-    def __init__(self, drop, file, connections, patience=None, most_open=None):
+    def __init__(self, drop, file, connections, patience=None, most_open=None, room=None):
         self.drop, self.file = drop, file
         self.address = f"127.0.0.1:{free_port()}"
         self.words = [drop.program, "serve", file, "--listen", self.address, "--connections", str(connections)]
         self.words += ["--patience", str(patience)] if patience is not None else []
         self.words += ["--open", str(most_open)] if most_open is not None else []
+        self.words += ["--room", str(room)] if room is not None else []
         self.own = {}  # further arguments with which the process is started
 
     def __enter__(self):

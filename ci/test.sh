@@ -87,11 +87,11 @@ with_command objdump binutils
 # These have folders and ports of their own, and measure nothing: they run in parallel.
 beside=(ci/test_{rows,replays,streams,machine,office,migrate,desk,respelled,lists,exports,interop,documents,guards,damage,changes}.py)
 # These measure time or memory, load the machine, or need all of it: they run one by one, in parallel with no other tests.
-alone=(ci/test_{serve,kills,crowd,stops,page,clerk,memory,deploy,package}.py)
+alone=(ci/test_{serve,kills,crowd,pace,stops,page,clerk,memory,deploy,package}.py)
 
-# Proves the crates in parallel, in the order that ends soonest; `rt ci` then takes over what was proved.
+# Proves everything by the code of `rt ci`, in the order that ends soonest.
 prove() {
-    python3 -B ci/prove.py && rt ci
+    python3 -B ci/prove.py
 }
 
 SECONDS=0

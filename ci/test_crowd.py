@@ -32,11 +32,13 @@ from server import Server, boto_client, curl, open_office
 DEPLOY = kit.ROOT / "deploy"
 PATIENCE = 30
 IDLE, SLOW, CLIENTS, VISITS, ROUNDS = 300, 20, 8, 5, 4
-AHEAD = 64  # MiB that may be read ahead, over all connections
+AHEAD = 64  # MiB that bodies may take as they come, over all connections
 ANSWERS = CLIENTS  # MiB of answers to clients that may be in transit, at most 1 MiB each
 BODIES = 60
 MANY = 2000
 LARGE = b"l" * (8 << 20)
+LARGE_FILES, LARGE_PEERS, LARGE_ROOM = 36, 12, 20  # files of the greatest size, connections, MB
+LARGE_ALONE = 100  # MiB for one client with such files after another
 FILES = ["a.txt", "a b/é.txt", "x+y=z&#%.bin"]  # for links by boto3
 
 
@@ -142,7 +144,7 @@ def pushed(connect, message):
 def bodies_ahead(drop, check, alone):
     """Peers that send the greatest body except its last byte delay nobody, and their memory is bounded in total."""
     file, message = open_office(drop, "bodies"), put(b"/in/large", LARGE, date=a_minute_ago())[:-1]
-    with Server(drop, file, BODIES + CLIENTS, PATIENCE) as server, contextlib.ExitStack() as stack:
+    with Server(drop, file, BODIES + CLIENTS, PATIENCE, room=AHEAD) as server, contextlib.ExitStack() as stack:
         for _ in range(BODIES):
             stack.enter_context(pushed(server.connect, message))
         time.sleep(1)
@@ -154,20 +156,26 @@ def bodies_ahead(drop, check, alone):
 
 
 def test_large(drop, check):
-    """More files of the greatest size at once than there is room for: each is accepted, and no connection is dropped."""
+    """More files of the greatest size at once than there is room for, several on each connection: each is accepted, no connection
+    is dropped, and the bodies take no more memory than the room."""
     file, date = open_office(drop, "large"), a_minute_ago()
-    files = [bytes([number]) * len(LARGE) for number in range(12)]
+    files = [bytes([number]) * len(LARGE) for number in range(LARGE_FILES)]
 
-    def uploaded(number):
+    def uploaded(first):
+        told = []
         with Peer(server.connect) as peer:
-            found = peer.ask(put(b"/in/%d" % number, files[number], date=date))
-        told = re.search(rb"receipt (\d+) ", found)
-        number_told = int(told[1]) if told else 0
-        check(f"large: file {number}", None if found == receipt(number_told, files[number]) else f"{found[:300]}")
-        return number_told
+            for number in range(first, len(files), LARGE_PEERS):
+                found = peer.ask(put(b"/in/%d" % number, files[number], date=date))
+                told += [int(it) for it in re.findall(rb"receipt (\d+) ", found)[:1] or [0]]
+                check(f"large: file {number}", None if found == receipt(told[-1], files[number]) else f"{found[:300]}")
+        return told
 
-    with Server(drop, file, len(files), PATIENCE) as server, concurrent.futures.ThreadPoolExecutor(len(files)) as pool:
-        told = [*pool.map(uploaded, range(len(files)))]
+    with Server(drop, file, LARGE_PEERS, PATIENCE, room=LARGE_ROOM) as server, contextlib.ExitStack() as stack:
+        pool = stack.enter_context(concurrent.futures.ThreadPoolExecutor(LARGE_PEERS))
+        told = [it for some in pool.map(uploaded, range(LARGE_PEERS)) for it in some]
+        most = most_memory(server.process)
+        print(f"large: {most:.0f} MiB")
+        check("large: the memory", f"{most:.0f} MiB" if most > LARGE_ALONE + LARGE_ROOM else None)
         check("large: the end", difference(server.end(), server.owed_end(False)))
     add_office(drop, file, check, "large", sorted(told))
 

@@ -19,6 +19,7 @@ from clients import by_either, serving  # noqa: E402
 from costs import cost_row  # noqa: E402
 from crowds import crowd_rows  # noqa: E402
 from memory import fetches_rows, uploads_rows  # noqa: E402
+from pace import HEAD as PACE_HEAD, pace_rows  # noqa: E402
 from servers import HERE, KIB, ROWS, Drop, Nginx, body_of  # noqa: E402
 from shared import connected, disk_of, load, machine, print_table  # noqa: E402
 from swift_peer import Swift  # noqa: E402
@@ -131,6 +132,7 @@ def run(words, folder):
                        (["Uploads", "Memory of `drop serve` before them, KiB", "At its greatest", "Behind them"], uploads_rows),
                        (["Beside it", "Answers", "The slowest, ms", "The median, ms"], crowd_rows)]:
         print_table(head, [list(map(str, it)) for it in rows(rounds.servers[0], folder, rounds.client)])
+    print_table(PACE_HEAD, [list(map(str, it)) for it in pace_rows(rounds.servers[:2], folder)])
     if words.profile:
         print_costs(rounds)
     print(f"{words.rounds} rounds of {words.seconds} s, the best, in brackets the median; {load()} at the end")

@@ -24,6 +24,17 @@ pub record Stays {K T : Type 0} (means : K → State → Type 0) (is_honest is_o
   pub crash : (s t : State) → means old s → is_honest new → leaves new t → leaves old t ⊎ (t ≡ s)
   pub whole : (s : State) → means old s → is_honest new → leaves_whole old → leaves_whole new
 
+-- What a call leaves that changes nothing and cannot fail. The state and the count of faults are the same. A store that is
+-- honest now was honest before, and if it was open, it is open. A crash leaves nothing new except the current state.
+pub record StaysSure {K : Type 0} (means : K → State → Type 0) (is_honest is_open : K → Type 0) (faults : K → ℕ)
+    (leaves : K → State → Type 0) (leaves_whole : K → Type 0) (old new : K) : Type 0 where
+  pub same : (s : State) → means old s → means new s
+  pub honest : is_honest new → is_honest old
+  pub opened : is_honest new → is_open old → is_open new
+  pub count : faults new ≡ faults old
+  pub crash : (s t : State) → means old s → is_honest new → leaves new t → leaves old t ⊎ (t ≡ s)
+  pub whole : (s : State) → means old s → is_honest new → leaves_whole old → leaves_whole new
+
 -- what was staged is still staged
 abbrev pub KeepsStaged : {K : Type 0} → (K → List ℕ → Type 0) → K → K → Type 0
 KeepsStaged stages old new = (bytes : List ℕ) → stages old bytes → stages new bytes

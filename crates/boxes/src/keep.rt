@@ -10,7 +10,7 @@ ghost use Rattle.boxes.specs.Rows.{IsOfficeOf, key_of, settings_of, IsFileAt, re
 ghost use Rattle.boxes.specs.Rules.{HasBytes};
 ghost use Rattle.boxes.specs.Sound.{IsSound};
 ghost use Rattle.boxes.specs.Changes.{IsChangeOf, IsPastFull, TakesStaged};
-ghost use Rattle.boxes.specs.Keeping.{Answers, Stays, KeepsStaged, LeavesAlone, LeavesEither};
+ghost use Rattle.boxes.specs.Keeping.{Answers, Stays, StaysSure, KeepsStaged, LeavesAlone, LeavesEither};
 
 use crate::{BoxRow, Change, FileRow, KeyRow, OfficeRow, ReceiptRow, Totals};
 use thiserror::Error;
@@ -174,6 +174,17 @@ pub trait Keeper {
         ensures rest { Stays means is_honest is_open faults leaves leaves_whole has_store
             self.old self.new result }
         ensures staged { OnOk result (KeepsStaged stages self.old self.new) };
+
+    /// Moves the staged bytes out. Then no bytes are staged. Takes no memory.
+    fn stage_take(&mut self) -> Vec<u8>
+        ensures sure { StaysSure means is_honest is_open faults leaves leaves_whole self.old self.new }
+        ensures bytes { (staged : List ℕ) → stages self.old staged → result.items ≡ staged }
+        ensures empty { stages self.new [] };
+
+    /// Moves these bytes in, in the place of the staged bytes. Takes no memory.
+    fn stage_put(&mut self, bytes: Vec<u8>)
+        ensures sure { StaysSure means is_honest is_open faults leaves leaves_whole self.old self.new }
+        ensures staged { stages self.new bytes.items };
 
     /// Drops the staged bytes. Takes no memory.
     fn stage_drop(&mut self) -> Result<(), KeepFault>

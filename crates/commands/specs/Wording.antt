@@ -1,5 +1,5 @@
 -- What the words of a command say.
-use Rattle.std.specs.Prelude.{◌≡◌, ◌*◌, ℕ, zero, suc, List, Option, Some, None}
+use Rattle.std.specs.Prelude.{◌≡◌, ◌≤◌, ◌*◌, ℕ, zero, suc, List, Option, Some, None, option_map}
 use Rattle.std.specs.Str.Parse.{IsNumeral, digits_value, without_leading_plus}
 use Rattle.std.specs.Duration.{as_nanos}
 use Rattle.std.specs.declared.time.Duration.{Duration}
@@ -18,6 +18,11 @@ abbrev pub IsPatience : ℕ → Option Duration → Type 0
 IsPatience zero patience = patience ≡ None
 IsPatience (suc seconds) patience = (time : Duration) × (patience ≡ Some time) × (as_nanos time ≡ suc seconds * 1000000000)
 
+-- a bound in megabytes, if one is given, is this many bytes; without one they are at least 64 megabytes
+abbrev pub IsRoom : Option (List ℕ) → ℕ → Type 0
+IsRoom None bytes = 64000000 ≤ bytes
+IsRoom (Some text) bytes = (n : ℕ) × IsNumber text n × (bytes ≡ n * 1000000)
+
 -- the address and the limits of the words
 pub record IsServiceOf (words : Serve) (address : SocketAddrV4) (limits : Limits) : Type 0 where
   pub listen : IsSocketV4Text words.listen.now address
@@ -26,3 +31,4 @@ pub record IsServiceOf (words : Serve) (address : SocketAddrV4) (limits : Limits
   pub seconds : ℕ
   pub patience : IsNumber words.patience.now seconds
   pub waits : IsPatience seconds limits.patience
+  pub room : IsRoom (option_map (λ text. text.now) words.room) limits.room

@@ -1,12 +1,13 @@
 //! `drop serve`: serves an office at an address.
-ghost use Rattle.std.specs.Prelude.{◌≡◌, IfErr, IfOk, IfSome, IsOk, IsOkAnd};
+ghost use Rattle.std.specs.Prelude.{◌≡◌, ◌≤◌, IfErr, IfOk, IfSome, IsOk, IsOkAnd, Some};
 ghost use Rattle.std.specs.Net.Grammar.{IsSocketV4Text};
 ghost use Rattle.commands.specs.Serving.{IsFine, MayServe, NothingCame};
-ghost use Rattle.commands.specs.Wording.{IsPatience, IsServiceOf};
+ghost use Rattle.commands.specs.Wording.{IsPatience, IsRoom, IsServiceOf};
 ghost use Rattle.commands.specs.Working.{Passes};
 
 use crate::arguments::Argument;
 use crate::faults::Fault;
+use crate::memory::memory_bound;
 use crate::outside::Outside;
 use crate::rounds::{Outcome, Served, serve};
 use crate::work::OfficeWork;
@@ -15,12 +16,19 @@ use mio::Poll;
 use office::Office;
 use shelf::CachedKeeper;
 use sockets::{Limits, Listener};
+use std::fs::Files;
 use std::io;
 use std::io::{Read, Write};
 use std::net::SocketAddrV4;
 use std::time::Duration;
 use tasks::Serve;
 use wire::{Gathered, Outbox};
+
+/// The bytes of 1 MB.
+const MEGABYTE: usize = 1_000_000;
+
+/// The least memory for bodies that come, in bytes.
+const LEAST_ROOM: usize = 64 * MEGABYTE;
 
 /// The parsed arguments of a service.
 #[derive(Clone, Copy)]
@@ -105,8 +113,12 @@ impl<W: Write + Drop, N: Outside + Drop> OfficeWork for ServeWork<'_, W, N> {
     }
 }
 
-/// Reads the arguments. Fails if one is malformed.
-pub fn read_service<'a>(words: &Serve<'a>) -> Result<Service<'a>, Fault>
+/// Reads the arguments. Fails if one is malformed. Without a bound for bodies, they may take a quarter of the
+/// memory that the program may have, but at least 64 MB.
+pub fn read_service<'a, R: Files + AllocGlobal>(
+    rt: &R,
+    words: &Serve<'a>,
+) -> Result<Service<'a>, Fault>
     ensures { IfOk result (λ service. IsServiceOf words.now service.address service.limits) }
 {
     let address = read_address(words.listen).ok_or(Fault::MalformedValue(Argument::Listen))?;
@@ -119,6 +131,10 @@ pub fn read_service<'a>(words: &Serve<'a>) -> Result<Service<'a>, Fault>
     let Ok(open) = words.open.parse::<usize>() else {
         return Err(Fault::MalformedValue(Argument::Open));
     };
+    let room = match words.room {
+        Some(text) => read_room(text)?,
+        None => quarter_of(memory_bound(rt)),
+    };
     Ok(Service {
         file: words.file,
         listen: words.listen,
@@ -127,8 +143,29 @@ pub fn read_service<'a>(words: &Serve<'a>) -> Result<Service<'a>, Fault>
             connections,
             patience: patience_of(seconds),
             open,
+            room,
         },
     })
+}
+
+// Reads a bound for bodies in megabytes. Returns it in bytes.
+fn read_room(text: &str) -> Result<usize, Fault>
+    ensures { IfOk result (IsRoom (Some text.now)) }
+{
+    match text.parse::<u32>() {
+        Ok(megabytes) => Ok(megabytes as usize * MEGABYTE),
+        Err(_) => Err(Fault::MalformedValue(Argument::Room)),
+    }
+}
+
+// A quarter of the memory, but at least `LEAST_ROOM`.
+fn quarter_of(memory: Option<u64>) -> usize
+    ensures { 64000000 ≤ result }
+{
+    match memory {
+        Some(memory) => (memory as usize / 4).max(LEAST_ROOM),
+        None => LEAST_ROOM,
+    }
 }
 
 // How long a connection may be silent. After 0 seconds none is too long.

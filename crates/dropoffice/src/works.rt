@@ -249,7 +249,7 @@ pub(crate) fn do_serve<S: Start + Drop, N: Outside + Drop, W: Write + Drop, E: W
         (IsOk result.gain.result) outside result.gain.ending) }
     ensures opened { IsOk result.gain.result → IsOk result.closed → IsClosed result.left }
 {
-    match read_service(words) {
+    match read_service(rt, words) {
         Ok(service) => serve_by(rt, words, service, out, err, start, outside),
         Err(fault) => ended_with(
             unserved(fault, Ending::Idle(outside)),

@@ -27,7 +27,8 @@ use Rattle.sigv4.proofs.Moments.{moment_once}
 use Rattle.links.specs.Admits.{signed_of}
 use Rattle.links.specs.Alike.{SameText, SaysTheSame}
 use Rattle.links.specs.Forms.{IsExpiry}
-use Rattle.links.specs.WellFormed.{LinkValues, IsWellFormed, HasValue, methods}
+use Rattle.links.specs.WellFormed.{LinkValues, IsWellFormed, HasValue}
+use Rattle.sigtext.specs.Readable.{methods}
 use Rattle.links.proofs.OwnParams.{moved_value}
 use Rattle.links.proofs.Values.{value_once, expiry_once}
 

@@ -2,7 +2,7 @@
 use Rattle.std.proofs.Common.{◌≡◌, ℕ, Bool, true, false, List, refl, ap, ◌∙◌}
 use Rattle.std.specs.Prelude.{◌&&◌, not, codes}
 use Rattle.sigtext.specs.Bytes.{begins_with}
-use Rattle.links.specs.WellFormed.{is_signing_name, is_other_amz_name}
+use Rattle.sigtext.specs.Readable.{is_signing_name, is_other_amz_name}
 
 and_false : (b : Bool) → (b && false) ≡ false
 and_false true = refl

@@ -6,7 +6,7 @@ use Rattle.std.proofs.lemmas.Bool.{false≢true}
 use Rattle.sigtext.specs.Bytes.{same_bytes}
 use Rattle.links.specs.Methods.{method_text}
 use Rattle.links.specs.Orders.{Terms, TermRule, AreSound, IsFirstFault, fault_place}
-use Rattle.links.specs.WellFormed.{methods}
+use Rattle.sigtext.specs.Readable.{methods}
 use Rattle.links.specs.declared.methods.Method.{Method}
 use Rattle.links.specs.declared.orders.LinkFault.{LinkFault}
 use Rattle.links.specs.declared.orders.LinkFault.TheVariants as fault

@@ -10,7 +10,8 @@ use Rattle.sigtext.specs.Target.{Param, IsTargetOf}
 use Rattle.sigtext.specs.Targets.{SpellsReading}
 use Rattle.sigtext.specs.SignedHeaders.{Header}
 use Rattle.sigtext.specs.SignedValues.{ValueRule}
-use Rattle.links.specs.SixValues.{SixTexts, SixParts, SixRule, AreRightParams, AreWrongParams, HaveNames}
+use Rattle.links.specs.SixValues.{SixTexts, SixParts, SixRule, AreRightParams, AreWrongParams}
+use Rattle.sigtext.specs.Readable.{HaveNames}
 use Rattle.links.specs.LinkReadings.{IsAskedBy}
 use Rattle.links.proofs.ServedMethods.{served_method}
 use Rattle.links.specs.declared.methods.Method.{Method}

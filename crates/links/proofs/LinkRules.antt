@@ -17,7 +17,8 @@ use Rattle.sigtext.proofs.NamesOnce.{names_once}
 use Rattle.sigv4.specs.Credential.{IsCredential}
 use Rattle.sigv4.specs.Dates.{WritesMoment}
 use Rattle.links.specs.Forms.{IsExpiry, IsHexDigest}
-use Rattle.links.specs.WellFormed.{LinkValues, HasValue, methods, is_signing_name, AreTheSix, HeadRule, IsWellFormed}
+use Rattle.links.specs.WellFormed.{LinkValues, HasValue, AreTheSix, HeadRule, IsWellFormed}
+use Rattle.sigtext.specs.Readable.{methods, is_signing_name}
 use Rattle.links.proofs.Values.{value_same}
 use Rattle.links.specs.SixValues.{SixTexts, SixParts, SixRule, AreSixOf, AreRightParams, AreWrongParams}
 

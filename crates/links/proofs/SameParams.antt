@@ -14,7 +14,8 @@ use Rattle.sigtext.specs.UriEncode.{uri_encoded}
 use Rattle.sigtext.proofs.Ascending.{ascending_once}
 use Rattle.sigtext.proofs.Filters.{kept}
 use Rattle.links.specs.Drafts.{DraftValues}
-use Rattle.links.specs.WellFormed.{HasValue, signing_names, is_signing_name}
+use Rattle.links.specs.WellFormed.{HasValue}
+use Rattle.sigtext.specs.Readable.{signing_names, is_signing_name}
 
 -- the signing parameters except the signature have these values
 pub record HaveValues (five : DraftValues) (params : List Param) : Type 0 where

@@ -3,7 +3,7 @@ use Rattle.std.proofs.Common.{◌≡◌, ℕ, List, refl, sym, subst}
 use Rattle.std.specs.Prelude.{IsTrue}
 use Rattle.std.specs.List.{list_any}
 use Rattle.sigtext.specs.Bytes.{same_bytes}
-use Rattle.links.specs.WellFormed.{methods}
+use Rattle.sigtext.specs.Readable.{methods}
 use Rattle.links.specs.Methods.{method_text}
 use Rattle.links.specs.declared.methods.Method.{Method}
 use Rattle.links.specs.declared.methods.Method.TheVariants as method

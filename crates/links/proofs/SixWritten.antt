@@ -15,7 +15,8 @@ use Rattle.sigtext.proofs.Filtered.{IsPermutation-filter}
 use Rattle.sigtext.proofs.Filters.{each_passes}
 use Rattle.links.specs.Drafts.{DraftValues, param, draft_params}
 use Rattle.links.specs.Orders.{IsOwnParam}
-use Rattle.links.specs.WellFormed.{HasValue, AreTheSix, signing_names, is_signing_name, is_other_amz_name}
+use Rattle.links.specs.WellFormed.{HasValue, AreTheSix}
+use Rattle.sigtext.specs.Readable.{signing_names, is_signing_name, is_other_amz_name}
 use Rattle.links.proofs.OwnParams.{Begin, names_differ, opposed, joined_once, joined_value, moved_once, moved_value}
 
 abbrev pub sixth : List ℕ → Param

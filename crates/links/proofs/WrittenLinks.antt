@@ -31,7 +31,8 @@ use Rattle.links.specs.Admits.{KnownKey, IsSignedBy, Admits}
 use Rattle.links.specs.Drafts.{DraftValues, draft_params, HasBytes, target_text}
 use Rattle.links.specs.Forms.{IsExpiry, IsHexDigest}
 use Rattle.links.specs.Orders.{Terms, AreSound, IsOwnParam, wanted, IsRequestFor, Knows, IsLinkFor}
-use Rattle.links.specs.WellFormed.{LinkValues, IsWellFormed, methods}
+use Rattle.links.specs.WellFormed.{LinkValues, IsWellFormed}
+use Rattle.sigtext.specs.Readable.{methods}
 use Rattle.links.proofs.Admitted.{admitted}
 use Rattle.links.proofs.Expiries.{written_expiry}
 use Rattle.links.proofs.OwnHeaders.{own_given, own_covered, wanted_fit, values_given, cover_moved}

@@ -15,7 +15,8 @@ use Rattle.sigtext.specs.Target.{Param, BeginsWithSlash}
 use Rattle.sigtext.specs.UriEncode.{uri_encoded}
 use Rattle.sigtext.specs.declared.encode.Slash.TheVariants.{Kept}
 use Rattle.sigv4.specs.Credential.{IsKeyId, IsRegion, IsSecret}
-use Rattle.links.specs.WellFormed.{LinkValues, methods, is_signing_name, IsWellFormed}
+use Rattle.links.specs.WellFormed.{LinkValues, IsWellFormed}
+use Rattle.sigtext.specs.Readable.{methods, is_signing_name}
 use Rattle.links.specs.Moments.{Now, HasBegun, IsNotOver}
 use Rattle.links.specs.Admits.{KnownKey, IsSignedBy, Admits}
 use Rattle.links.specs.declared.orders.LinkFault.{LinkFault}

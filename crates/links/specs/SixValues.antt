@@ -1,5 +1,5 @@
 -- The values of the six signing parameters, and the rules on their forms.
-use Rattle.std.specs.Prelude.{◌≡◌, ℕ, ◌-◌, List, take, drop, ◌∷◌, [], codes, ⊤, IsTrue, ◌⊎◌, IsFalse}
+use Rattle.std.specs.Prelude.{◌≡◌, ℕ, ◌-◌, List, take, drop, ◌∷◌, [], codes, ⊤, IsTrue, ◌⊎◌}
 use Rattle.std.specs.List.{list_any}
 use Rattle.sigtext.specs.declared.refusal.Refusal.{Refusal}
 use Rattle.sigtext.specs.declared.refusal.Refusal.TheVariants as rule
@@ -12,7 +12,8 @@ use Rattle.sigv4.specs.Signature.{CredentialScope}
 use Rattle.sigv4.specs.Credential.{IsCredential}
 use Rattle.sigv4.specs.Dates.{WritesMoment}
 use Rattle.links.specs.Forms.{IsExpiry, IsHexDigest}
-use Rattle.links.specs.WellFormed.{HasValue, AreTheSix, is_signing_name, is_other_amz_name}
+use Rattle.links.specs.WellFormed.{HasValue, AreTheSix}
+use Rattle.sigtext.specs.Readable.{is_signing_name}
 use Rattle.links.specs.declared.six.RawSix.{RawSix}
 use Rattle.links.specs.declared.six_values.SixValues.{SixValues}
 
@@ -99,7 +100,3 @@ abbrev pub AreWrongParams : Refusal → List Param → Type 0
 AreWrongParams q params =
     ((q ≡ rule.NotSigned) × (IsTrue (list_any (λ p. is_signing_name p.name) params) → ⊥))
     ⊎ ((q ≡ rule.Parameters) × IsTrue (list_any (λ p. is_signing_name p.name) params) × (AreTheSix params → ⊥))
-
--- one of the six is present, and no other name begins with `X-Amz-`; this is checked before memory is requested
-abbrev pub HaveNames : List Param → Type 0
-HaveNames params = IsTrue (list_any (λ p. is_signing_name p.name) params) × IsFalse (list_any (λ p. is_other_amz_name p.name) params)

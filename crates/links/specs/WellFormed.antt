@@ -1,11 +1,12 @@
 -- The rules for a request's method, target and fields, which do not depend on what the office stores (Amazon S3 API Reference,
 -- "Authenticating Requests: Using Query Parameters").
-use Rattle.std.specs.Prelude.{◌≡◌, ℕ, Bool, ◌&&◌, not, IsTrue, IsFalse, List, [], ◌∷◌, length, map, codes, ⊤}
+use Rattle.std.specs.Prelude.{◌≡◌, ℕ, IsTrue, IsFalse, List, [], ◌∷◌, length, map, codes, ⊤}
 use Rattle.std.specs.List.{list_all, list_any, AllByRecursion}
 use Rattle.sigtext.specs.declared.refusal.Refusal.{Refusal}
 use Rattle.sigtext.specs.declared.refusal.Refusal.TheVariants as rule
-use Rattle.sigtext.specs.Bytes.{same_bytes, begins_with}
+use Rattle.sigtext.specs.Bytes.{same_bytes}
 use Rattle.sigtext.specs.Request.{Request}
+use Rattle.sigtext.specs.Readable.{methods, signing_names, is_signing_name, is_other_amz_name}
 use Rattle.sigtext.specs.Target.{Param, IsTargetOf}
 use Rattle.sigtext.specs.Params.{params_named, StandOnce}
 use Rattle.sigtext.specs.SignedHeaders.{Header, AreSignedValues}
@@ -28,19 +29,6 @@ pub record LinkValues : Type 0 where
   pub signed : List Header  -- the signed names and values
   pub signature : List ℕ
 
--- the six signing parameters
-abbrev pub signing_names : List (List ℕ)
-signing_names =
-    codes "X-Amz-Algorithm" ∷ codes "X-Amz-Credential" ∷ codes "X-Amz-Date" ∷ codes "X-Amz-Expires"
-    ∷ codes "X-Amz-SignedHeaders" ∷ codes "X-Amz-Signature" ∷ []
-
-abbrev pub is_signing_name : List ℕ → Bool
-is_signing_name name = list_any (same_bytes name) signing_names
-
--- a name that begins with `X-Amz-` and is none of the six
-abbrev pub is_other_amz_name : List ℕ → Bool
-is_other_amz_name name = begins_with name (codes "X-Amz-") && not (is_signing_name name)
-
 -- exactly one parameter has this name, and this is its value
 abbrev pub HasValue : List Param → List ℕ → List ℕ → Type 0
 HasValue params name value = params_named name params ≡ record { name = name; value = value } ∷ []
@@ -54,10 +42,6 @@ pub record AreTheSix (params : List Param) : Type 0 where
   pub once : StandOnce params
   pub there : AreThere params
   pub no_other : IsFalse (list_any (λ p. is_other_amz_name p.name) params)
-
--- the methods that are served
-abbrev pub methods : List (List ℕ)
-methods = codes "PUT" ∷ codes "GET" ∷ codes "HEAD" ∷ codes "POST" ∷ []
 
 -- the rules 7 to 18; a refusal with another number has no rule here
 abbrev pub HeadRule : Refusal → Request → LinkValues → Type 0

@@ -6,7 +6,8 @@ ghost use Rattle.sigtext.specs.Request.{Request};
 ghost use Rattle.sigtext.specs.Rules.{IsFirstToFail};
 ghost use Rattle.sigv4.specs.Dates.{WritesMoment};
 ghost use Rattle.links.specs.WellFormed.{LinkValues, HeadRule};
-ghost use Rattle.links.specs.SixValues.{SixParts, SixRule, HoldBeforeNames, HaveNames, texts_of};
+ghost use Rattle.links.specs.SixValues.{SixParts, SixRule, HoldBeforeNames, texts_of};
+ghost use Rattle.sigtext.specs.Readable.{HaveNames};
 ghost use Rattle.sigtext.specs.Target.{Param, IsTargetOf};
 ghost use Rattle.links.specs.LinkReadings.{IsAskedBy, IsLinkOf};
 

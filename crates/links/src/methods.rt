@@ -3,7 +3,7 @@ ghost use Rattle.std.specs.Prelude.{◌≡◌, IsFalse, IfSome, IfNone};
 ghost use Rattle.std.specs.List.{list_any};
 ghost use Rattle.sigtext.specs.Bytes.{same_bytes};
 ghost use Rattle.links.specs.Methods.{method_text};
-ghost use Rattle.links.specs.WellFormed.{methods};
+ghost use Rattle.sigtext.specs.Readable.{methods};
 
 /// A method that is served.
 #[derive(Clone, Copy, Debug, PartialEq, Eq)]

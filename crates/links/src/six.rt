@@ -1,13 +1,14 @@
 //! The six signing parameters of a target.
-ghost use Rattle.std.specs.Prelude.{◌≡◌, ◌≢◌, ℕ, List, codes, IfOk, IfErr, IfSome, IfNone};
+ghost use Rattle.std.specs.Prelude.{◌≡◌, ◌≢◌, ℕ, List, codes, IfOk, IfErr, IfSome, IfNone, IsFalse, IsTrue};
 ghost use Rattle.std.specs.List.{list_any};
 ghost use Rattle.percent_encoding.specs.Percent as escapes;
 ghost use Rattle.sigtext.specs.Bytes.{begins_with};
 ghost use Rattle.sigtext.specs.Target.{Param};
 ghost use Rattle.sigtext.specs.Targets.{SpellsReading};
 ghost use Rattle.sigtext.specs.Signing.{HoldsParams};
-ghost use Rattle.links.specs.WellFormed.{is_signing_name, is_other_amz_name, AreThere};
-ghost use Rattle.links.specs.SixValues.{AreRawSix, AreRightParams, AreWrongParams, HaveNames, texts_of};
+ghost use Rattle.links.specs.WellFormed.{AreThere};
+ghost use Rattle.sigtext.specs.Readable.{HaveNames, is_signing_name, is_other_amz_name};
+ghost use Rattle.links.specs.SixValues.{AreRawSix, AreRightParams, AreWrongParams, texts_of};
 
 use crate::six_values::SixValues;
 use percent_encoding::percent_decode;
@@ -89,6 +90,17 @@ fn amz_names(target: &Target<'_>) -> AmzNames
         }
     }
     AmzNames { signing, other }
+}
+
+/// Whether one of the six is present, and no other name begins with `X-Amz-`.
+pub(crate) fn has_names(target: &Target<'_>) -> bool
+    ensures told { (path : List ℕ) (params : List Param) → SpellsReading target.now path params
+        → IsTrue result → HaveNames params }
+    ensures denied { (path : List ℕ) (params : List Param) → SpellsReading target.now path params
+        → IsFalse result → HaveNames params → ⊥ }
+{
+    let names = amz_names(target);
+    names.signing && !names.other
 }
 
 // The raw values of the six, if all are present.

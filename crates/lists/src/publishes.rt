@@ -87,6 +87,14 @@ impl<K: Keeper, S: Sheet + Drop, E: Write + Drop> Keeper for Publisher<K, S, E> 
         self.keeper.staged_equals(in_box, name)
     }
 
+    fn stage_take(&mut self) -> Vec<u8> {
+        self.keeper.stage_take()
+    }
+
+    fn stage_put(&mut self, bytes: Vec<u8>) {
+        self.keeper.stage_put(bytes);
+    }
+
     fn stage_drop(&mut self) -> Result<(), KeepFault> {
         self.keeper.stage_drop()
     }

@@ -14,7 +14,7 @@ use Rattle.wire.specs.Answers.{answer_text}
 use Rattle.wire.specs.Answers as said
 use Rattle.office.specs.Answering.{AnswersRequest, is_head, refuses}
 use Rattle.office.specs.Offices.{IsTryAgain}
-use Rattle.office.specs.Readable.{IsReadable}
+use Rattle.sigtext.specs.Readable.{IsReadable}
 use Rattle.office.specs.Rules.{Rule}
 
 -- the answer of a refusal, which is never one to a HEAD if the connection closes

@@ -11,7 +11,7 @@ use Rattle.wire.specs.Framing as next
 use Rattle.wire.proofs.Fronts.{same_front, same_length}
 use Rattle.wire.proofs.Heads.{no_end_in_nothing}
 use Rattle.wire.proofs.WaitingFronts.{front_further, has_head, no_front_short}
-use Rattle.office.specs.Readable.{IsReadable}
+use Rattle.sigtext.specs.Readable.{IsReadable}
 use Rattle.office.specs.Sessions.{HasBegunMessage}
 
 front_of : (bytes : List ℕ) (a : HasBegunMessage bytes) → IsFront bytes a.text a.given

@@ -1,6 +1,6 @@
 -- One step of a session after a head was read.
-use Rattle.std.proofs.Common.{◌≡◌, ◌≢◌, ◌↔◌, ◌∙◌, ◌≤◌, ◌<◌, ℕ, Bool, true, false, List, [], ◌++◌, length, replicate, Option, None, Some, Result, Ok, Err, inl, inr, refl, sym, subst}
-use Rattle.std.specs.Prelude.{IfSome, IsTrue, OnErr}
+use Rattle.std.proofs.Common.{◌≡◌, ◌≢◌, ◌↔◌, ◌∙◌, ◌≤◌, ◌<◌, ℕ, Bool, true, false, List, [], ◌++◌, length, replicate, Option, Some, Result, Ok, Err, inl, inr, refl, sym, subst}
+use Rattle.std.specs.Prelude.{IfSome, IsFalse, IsTrue, OnErr}
 use Rattle.std.proofs.lemmas.Bool.{false≢true}
 use Rattle.std.specs.Io.KnownBytes.{Consumes}
 use Rattle.std.proofs.KnownBytes.{Consumes-trans}
@@ -27,19 +27,19 @@ use Rattle.office.specs.declared.requests.foreseeing.Prospect.{Prospect}
 use Rattle.office.specs.declared.requests.foreseeing.Body.{Body}
 use Rattle.office.specs.Foreseeing.{AreStaged, Foresees, IsUpload}
 use Rattle.office.specs.Receiving.{StagesBody}
-use Rattle.office.specs.Readable.{IsReadable}
+use Rattle.sigtext.specs.Readable.{IsReadable}
 use Rattle.office.specs.Sessions.{HasBegunMessage}
 use Rattle.office.specs.Stepping.{IsClosed, IsExpected, LeavesOff, Steps}
 use Rattle.office.specs.declared.connections.handling.Handled.{Handled}
 use Rattle.office.specs.declared.connections.handling.Handled.TheVariants as handled
 use Rattle.wire.specs.declared.session.SessionEnd.{SessionEnd}
-use Rattle.wire.specs.declared.session.SessionEnd.TheVariants.{Refused, ReadFault, WriteFault}
+use Rattle.wire.specs.declared.session.SessionEnd.TheVariants.{ReadFault}
 use Rattle.office.specs.Answering.{is_head}
 use Rattle.office.specs.Connections.{MayGiveUp}
 use Rattle.office.specs.Handling.{Handles, end_of}
 use Rattle.office.specs.Premise.{IsFault, WasKept}
 use Rattle.boxes.specs.declared.keep.KeepFault.{KeepFault}
-use Rattle.wire.specs.Feeds.{left, reader_of, waits_in}
+use Rattle.wire.specs.Feeds.{left, reader_of, waits_in, whole_left}
 use Rattle.wire.specs.declared.feed.Place.{Place}
 use Rattle.office.specs.Frames.{Quiet}
 use Rattle.office.proofs.KeeperCalls.{quiet_then}
@@ -60,51 +60,54 @@ pub readable_of : (head : RequestHead) (has_length : Bool) (body other : List �
 readable_of head has_length body other p formed =
     record { served = formed rule.Method; path = p.path; params = p.params; target = formed rule.Target; named = (formed rule.NotSigned, (formed rule.Parameters).no_other) }
 
-upload_readable : (s : State) (head : RequestHead) (has_length : Bool) (body other : List ℕ) (foreseen : Result Prospect Refusal) → Foresees s (request_of head has_length body) foreseen → IsUpload foreseen
+pub upload_readable : (s : State) (head : RequestHead) (has_length : Bool) (body other : List ℕ) (foreseen : Result Prospect Refusal) → Foresees s (request_of head has_length body) foreseen → IsUpload foreseen
     → IsReadable (request_of head has_length other)
 upload_readable s head has_length body other (Ok f) foresees upload = readable_of head has_length body other foresees.parts foresees.link.well_formed
 upload_readable s head has_length body other (Err q) foresees upload = absurd upload
 
-module _ (s : State) (size : ℕ) (known mid : Option (List ℕ)) (foreseen : Result Prospect Refusal) (to_head : Bool) (x : IsExpected s size known mid foreseen to_head) where
+-- a head was read, which is at the front of what was left
+module _ (known mid : Option (List ℕ)) {text : List ℕ} {has_length : Bool} {size : ℕ} (x : IsOpening text has_length size known mid) where
   -- the whole body came
-  abbrev pub next_message : (new : Option (List ℕ)) (body : List ℕ) → length body ≡ size → Consumes mid new body → IsNextMessage x.text x.has_length body known new
-  next_message new body len taken = message_joined known mid new x.text body x.has_length (opens_with x.text x.has_length size x.opening.opens body len) x.opening.front taken
+  abbrev pub next_message : (new : Option (List ℕ)) (body : List ℕ) → length body ≡ size → Consumes mid new body → IsNextMessage text has_length body known new
+  next_message new body len taken = message_joined known mid new text body has_length (opens_with text has_length size x.opens body len) x.front taken
 
   -- the body ended early
   pub lacks : 0 < size → IfSome mid (λ rest. length rest < size) → OfStream known (λ stream. Next stream (frame.Refused rule.BodyIncomplete) [])
-  lacks some few = lacking_joined known mid x.text x.has_length size x.opening.opens x.opening.front some few
+  lacks some few = lacking_joined known mid text has_length size x.opens x.front some few
 
-  pub read_on : (reader : Option (List ℕ)) (given : List ℕ) → Consumes mid reader given → Consumes known reader (x.text ++ given)
-  read_on reader given taken = Consumes-trans known mid reader x.text given (head_taken known mid x.text x.opening.front) taken
+  pub read_on : (reader : Option (List ℕ)) (given : List ℕ) → Consumes mid reader given → Consumes known reader (text ++ given)
+  read_on reader given taken = Consumes-trans known mid reader text given (head_taken known mid text x.front) taken
 
-  pub awaits : (given : List ℕ) → length given < size → Awaits (x.text ++ given)
-  awaits given few = awaits_body x.text given x.has_length size x.opening.opens few
+  pub awaits : (given : List ℕ) → length given < size → Awaits (text ++ given)
+  awaits given few = awaits_body text given has_length size x.opens few
 
-  pub has_begun : (given : List ℕ) → IsReadable (request_of x.opening.opens.head x.has_length []) → HasBegunMessage (x.text ++ given)
-  has_begun given readable = record { text = x.text; given = given; has_length = x.has_length; size = size; whole = refl; opens = x.opening.opens; readable = readable }
+  pub has_begun : (given : List ℕ) → IsReadable (request_of x.opens.head has_length []) → HasBegunMessage (text ++ given)
+  has_begun given readable = record { text = text; given = given; has_length = has_length; size = size; whole = refl; opens = x.opens; readable = readable }
 
-  pub upload_begun : (given : List ℕ) → IsUpload foreseen → HasBegunMessage (x.text ++ given)
-  upload_begun given upload =
-      let body = replicate size 0 in
-      has_begun given (upload_readable s x.opening.opens.head x.has_length body [] foreseen (x.foresees body (length-replicate size 0)) upload)
+-- an upload was foreseen
+upload_begun : (s : State) (size : ℕ) (known mid : Option (List ℕ)) (foreseen : Result Prospect Refusal) (to_head : Bool) {text : List ℕ} (x : IsExpected s size known mid foreseen to_head text) (given : List ℕ) → IsUpload foreseen
+    → HasBegunMessage (text ++ given)
+upload_begun s size known mid foreseen to_head x given upload =
+    let body = replicate size 0 in
+    has_begun known mid x.opening given (upload_readable s x.opening.opens.head x.has_length body [] foreseen (x.foresees body (length-replicate size 0)) upload)
 
 -- ---- a whole body
 
--- the body that came; the body of an upload is staged
-pub record CameWhole {R K : Type 0} (remaining : R → Option (List ℕ)) (size : ℕ) (old new : Feed R) (k : Ghosts K) (keeper : K) (foreseen : Result Prospect Refusal) (b : Body) : Type 0 where
+-- the body that came; if it was to be staged, it is
+pub record HasCome {R K : Type 0} (remaining : R → Option (List ℕ)) (size : ℕ) (old new : Feed R) (k : Ghosts K) (keeper : K) (is_staged : Bool) (b : Body) : Type 0 where
   pub body : List ℕ
   pub taken : TakesBody remaining size old new body
-  pub staged : IsUpload foreseen → AreStaged k keeper body b
+  pub staged : IsTrue is_staged → AreStaged k keeper body b
 
-pub came_whole : {R K : Type 0} (remaining : R → Option (List ℕ)) (size : ℕ) (old new : Feed R) (k : Ghosts K) (keeper : K) (foreseen : Result Prospect Refusal) (upload : Bool) (b : Body) → size ≤ most_body
-    → (IsTrue upload ↔ IsUpload foreseen) → (body : List ℕ) × TakesBody remaining size old new body → (IsTrue upload → StagesBody remaining size old new k keeper b.digest) → b.length ≡ size
-    → CameWhole remaining size old new k keeper foreseen b
-came_whole remaining size old new k keeper foreseen true b small is came stages len =
+pub has_come : {R K : Type 0} (remaining : R → Option (List ℕ)) (size : ℕ) (old new : Feed R) (k : Ghosts K) (keeper : K) (is_staged : Bool) (b : Body) → size ≤ most_body
+    → (IsFalse is_staged → (body : List ℕ) × TakesBody remaining size old new body) → (IsTrue is_staged → StagesBody remaining size old new k keeper b.digest) → b.length ≡ size
+    → HasCome remaining size old new k keeper is_staged b
+has_come remaining size old new k keeper true b small came stages len =
     let x = stages refl in
     record {
       body = x.body;
       taken = x.taken;
-      staged = λ upload. record {
+      staged = λ _. record {
         staged = x.staged;
         octets = x.octets;
         short = subst (λ (n : ℕ). n ≤ most_body) (sym x.taken.0) small;
@@ -112,39 +115,53 @@ came_whole remaining size old new k keeper foreseen true b small is came stages 
         digest = x.digest_is;
       };
     }
-came_whole remaining size old new k keeper foreseen false b small is came stages len =
-    record { body = came.0; taken = came.1; staged = λ upload. absurd (false≢true (is.1 upload)) }
+has_come remaining size old new k keeper false b small came stages len = record { body = (came refl).0; taken = (came refl).1; staged = λ is. absurd (false≢true is) }
+
+-- the same for what was foreseen of its message
+pub record CameWhole {R K : Type 0} (remaining : R → Option (List ℕ)) (size : ℕ) (old new : Feed R) (k : Ghosts K) (keeper : K) (foreseen : Result Prospect Refusal) (b : Body) : Type 0 where
+  pub body : List ℕ
+  pub taken : TakesBody remaining size old new body
+  pub staged : IsUpload foreseen → AreStaged k keeper body b
+
+pub came_whole : {R K : Type 0} (remaining : R → Option (List ℕ)) (size : ℕ) (old new : Feed R) (k : Ghosts K) (keeper : K) (foreseen : Result Prospect Refusal) (upload : Bool) (b : Body) → size ≤ most_body
+    → (IsTrue upload ↔ IsUpload foreseen) → (IsFalse upload → (body : List ℕ) × TakesBody remaining size old new body) → (IsTrue upload → StagesBody remaining size old new k keeper b.digest) → b.length ≡ size
+    → CameWhole remaining size old new k keeper foreseen b
+came_whole remaining size old new k keeper foreseen upload b small is came stages len =
+    let x = has_come remaining size old new k keeper upload b small came stages len in
+    record { body = x.body; taken = x.taken; staged = λ up. x.staged (is.1 up) }
 
 -- ---- steps after a head
 
+-- the whole body came, and the message was handled
+pub handled_step : {R C K : Type 0} (remaining : R → Option (List ℕ)) (new : Feed R) (gives : C → ℕ → C → Type 0) (p : Place) (known output output' : Option (List ℕ)) (clock clock' : C) (k : Ghosts K) (b c : K) (s : State)
+    (text : List ℕ) (has_length : Bool) (body : List ℕ) (m : IsNextMessage text has_length body known (left remaining new)) (h : Handled) → Handles gives clock clock' output output' k b c s (request_of m.opens.head has_length body) h
+    → Steps gives p known (left remaining new) (remaining (reader_of new).inner) output output' clock clock' k b c s (end_of h)
+handled_step remaining new gives p known output output' clock clock' k b c s text has_length body m handled.Answered handles =
+    answered_step gives p known (remaining (reader_of new).inner) output output' clock clock' k b c s text has_length body (waits_in new) m handles
+handled_step remaining new gives p known output output' clock clock' k b c s text has_length body m handled.GaveUp handles =
+    gave_up_step gives p known (remaining (reader_of new).inner) output output' clock clock' k b c s text has_length body (waits_in new) m handles
+handled_step remaining new gives p known output output' clock clock' k b c s text has_length body m handled.Broken handles =
+    broken_step gives p known (remaining (reader_of new).inner) output output' clock clock' k b c s text has_length body (waits_in new) m handles
+
 module _ {R C K : Type 0} (remaining : R → Option (List ℕ)) (size : ℕ) (old new : Feed R) (gives : C → ℕ → C → Type 0) (p : Place) (known output output' : Option (List ℕ)) (clock clock' : C) (k : Ghosts K) (a b c : K) (s : State)
-    (foreseen : Result Prospect Refusal) (to_head : Bool) (x : IsExpected s size known (left remaining old) foreseen to_head) where
-  abbrev reader : Option (List ℕ)
-  reader = remaining (reader_of new).inner
-
-  handled_step : (h : Handled) (body : List ℕ) (m : IsNextMessage x.text x.has_length body known (left remaining new))
-      → Handles gives clock clock' output output' k b c s (request_of m.opens.head x.has_length body) h → Steps gives p known (left remaining new) reader output output' clock clock' k b c s (end_of h)
-  handled_step handled.Answered body m handles = answered_step gives p known reader output output' clock clock' k b c s x.text x.has_length body (waits_in new) m handles
-  handled_step handled.GaveUp body m handles = gave_up_step gives p known reader output output' clock clock' k b c s x.text x.has_length body (waits_in new) m handles
-  handled_step handled.Broken body m handles = broken_step gives p known reader output output' clock clock' k b c s x.text x.has_length body (waits_in new) m handles
-
+    (foreseen : Result Prospect Refusal) (to_head : Bool) {text : List ℕ} (x : IsExpected s size known (whole_left remaining old) foreseen to_head text) where
   -- the whole body came, and the message was handled
   pub whole_step : (h : Handled) (told : Body) → CameWhole remaining size old new k b foreseen told → Before k a b s
       → ((r : Request) → Foresees s r foreseen → (foreseen ≢ Err rule.TryAgain) → to_head ≡ is_head r → (IsUpload foreseen → AreStaged k b r.body told) → Handles gives clock clock' output output' k b c s r h)
-      → Steps gives p known (left remaining new) reader output output' clock clock' k a c s (end_of h)
+      → Steps gives p known (left remaining new) (remaining (reader_of new).inner) output output' clock clock' k a c s (end_of h)
   whole_step h told came before handles =
-      let m = next_message s size known (left remaining old) foreseen to_head x (left remaining new) came.body came.taken.0 came.taken.2 in
-      steps_after gives p known (left remaining new) reader output output' clock clock' k a b c s (end_of h) before
-      (handled_step h came.body m (handles (request_of x.opening.opens.head x.has_length came.body) (x.foresees came.body came.taken.0) x.tells (x.head came.body) came.staged))
+      let m = next_message known (whole_left remaining old) x.opening (left remaining new) came.body came.taken.0 came.taken.3 in
+      steps_after gives p known (left remaining new) (remaining (reader_of new).inner) output output' clock clock' k a b c s (end_of h) before
+      (handled_step remaining new gives p known output output' clock clock' k b c s text x.has_length came.body m h (handles (request_of x.opening.opens.head x.has_length came.body) (x.foresees came.body came.taken.0) x.tells (x.head came.body) came.staged))
 
 module _ {R C K : Type 0} (remaining : R → Option (List ℕ)) (size : ℕ) (old new : Feed R) (gives : C → ℕ → C → Type 0) (p : Place) (known output output' : Option (List ℕ)) (clock : C) (k : Ghosts K) (a b : K) (s : State)
-    (foreseen : Result Prospect Refusal) (to_head : Bool) (x : IsExpected s size known (left remaining old) foreseen to_head) where
+    (foreseen : Result Prospect Refusal) (to_head : Bool) {text : List ℕ} (x : IsExpected s size known (whole_left remaining old) foreseen to_head text) where
   -- refusal 40 closed the connection within the body of an upload
-  pub given_up_step : (e : SessionEnd) (given : List ℕ) (gave_up : Type 0) → Quiet k a b gave_up → WasKept k a b s → Consumes (left remaining old) (remaining (reader_of new).inner) given → IsUpload foreseen
+  pub given_up_step : (e : SessionEnd) (given : List ℕ) (gave_up : Type 0) → Quiet k a b gave_up → WasKept k a b s → Consumes (whole_left remaining old) (remaining (reader_of new).inner) given → IsUpload foreseen
       → IsClosed output output' rule.TryAgain e → Steps gives p known (left remaining new) (remaining (reader_of new).inner) output output' clock clock k a b s (Some e)
   given_up_step e given gave_up quiet kept taken upload closed =
-      gave_up_reading_step gives p known (left remaining new) (remaining (reader_of new).inner) output output' clock k a b s e (x.text ++ given) (leaves_given_up k a b s gave_up quiet kept)
-      (read_on s size known (left remaining old) foreseen to_head x (remaining (reader_of new).inner) given taken) (inr (upload_begun s size known (left remaining old) foreseen to_head x given upload)) closed
+      gave_up_reading_step gives p known (left remaining new) (remaining (reader_of new).inner) output output' clock k a b s e (text ++ given) (leaves_given_up k a b s gave_up quiet kept)
+      (read_on known (whole_left remaining old) x.opening (remaining (reader_of new).inner) given taken) (inr (upload_begun s size known (whole_left remaining old) foreseen to_head x given upload)) closed
 
   -- the stream ended within the body
   pub lacking_step : (e : SessionEnd) (mid : K) (upload : Bool) → Quiet k a mid ⊥ → Quiet k mid b (MayGiveUp k mid b e) → WasKept k a b s → LacksBody remaining size old new → (IsTrue upload → IsUpload foreseen)
@@ -152,22 +169,22 @@ module _ {R C K : Type 0} (remaining : R → Option (List ℕ)) (size : ℕ) (ol
   lacking_step e mid upload first second kept lacking is (inl (closed, rest)) =
       closed_step gives p known (left remaining new) (remaining (reader_of new).inner) output output' clock k a b s rule.BodyIncomplete e
       (leaves_quiet k a b s ⊥ (quiet_then first (record { same = second.same; crash = second.crash; rest = rest })) kept (λ none. none))
-      (lacks s size known (left remaining old) foreseen to_head x lacking.1 lacking.2) closed
+      (lacks known (whole_left remaining old) x.opening lacking.1 lacking.2) closed
   lacking_step e mid upload first second kept lacking is (inr (closed, up)) =
       given_up_step e lacking.3 (MayGiveUp k mid b e) (quiet_then first second) kept lacking.4 (is up) closed
 
 module _ {R C K T : Type 0} (remaining : R → Option (List ℕ)) (size : ℕ) (old new : Feed R) (gives : C → ℕ → C → Type 0) (p : Place) (known output : Option (List ℕ)) (clock : C) (k : Ghosts K) (a b : K) (s : State)
-    (foreseen : Result Prospect Refusal) (to_head : Bool) (x : IsExpected s size known (left remaining old) foreseen to_head) where
+    (foreseen : Result Prospect Refusal) (to_head : Bool) {text : List ℕ} (x : IsExpected s size known (whole_left remaining old) foreseen to_head text) where
   -- a read failed within the body, and what was staged of it was dropped
   pub broken_off_step : (result : Result T KeepFault) (upload : Bool) (given : List ℕ) → Quiet k a b (IsFault result) → OnErr result (Rose (k.faults a) (k.faults b)) → WasKept k a b s → OnErr result (IsTrue upload) → (IsTrue upload → IsUpload foreseen)
-      → Consumes (left remaining old) (remaining (reader_of new).inner) given → length given < size → Steps gives p known (left remaining new) (remaining (reader_of new).inner) output output clock clock k a b s (Some ReadFault)
+      → Consumes (whole_left remaining old) (remaining (reader_of new).inner) given → length given < size → Steps gives p known (left remaining new) (remaining (reader_of new).inner) output output clock clock k a b s (Some ReadFault)
   broken_off_step (Ok done) upload given quiet rose kept asked is taken few =
-      read_failed_step gives p known (left remaining new) (remaining (reader_of new).inner) output clock k a b s (x.text ++ given) (leaves_quiet k a b s ⊥ quiet kept (λ none. none))
-      (read_on s size known (left remaining old) foreseen to_head x (remaining (reader_of new).inner) given taken) (awaits s size known (left remaining old) foreseen to_head x given few)
+      read_failed_step gives p known (left remaining new) (remaining (reader_of new).inner) output clock k a b s (text ++ given) (leaves_quiet k a b s ⊥ quiet kept (λ none. none))
+      (read_on known (whole_left remaining old) x.opening (remaining (reader_of new).inner) given taken) (awaits known (whole_left remaining old) x.opening given few)
   broken_off_step (Err f) upload given quiet rose kept asked is taken few =
-      read_failed_giving_up_step gives p known (left remaining new) (remaining (reader_of new).inner) output clock k a b s (x.text ++ given) (leaves_given_up k a b s (IsFault {T = T} (Err f)) quiet kept) rose
-      (read_on s size known (left remaining old) foreseen to_head x (remaining (reader_of new).inner) given taken) (awaits s size known (left remaining old) foreseen to_head x given few)
-      (upload_begun s size known (left remaining old) foreseen to_head x given (is asked))
+      read_failed_giving_up_step gives p known (left remaining new) (remaining (reader_of new).inner) output clock k a b s (text ++ given) (leaves_given_up k a b s (IsFault {T = T} (Err f)) quiet kept) rose
+      (read_on known (whole_left remaining old) x.opening (remaining (reader_of new).inner) given taken) (awaits known (whole_left remaining old) x.opening given few)
+      (upload_begun s size known (whole_left remaining old) foreseen to_head x given (is asked))
 
 -- a head was read, and refusal 40 closed the connection before the body was
 pub head_given_up_step : {R C K : Type 0} (remaining : R → Option (List ℕ)) (feed : Feed R) (gives : C → ℕ → C → Type 0) (p : Place) (known output output' : Option (List ℕ)) (clock : C) (k : Ghosts K) (a b : K) (s : State)

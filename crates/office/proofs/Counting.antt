@@ -19,7 +19,7 @@ one_by i t = cond (nat_eq t.which i) 1 0
 
 -- how many turns the connection took
 abbrev pub took_of : Sitting → ℕ
-took_of x = x.served + over_if x.end
+took_of x = x.served + x.waited + over_if x.end
 
 -- each connection, from number i on, has as many turns as it took
 abbrev pub AllTook : List Turn → ℕ → List Sitting → Type 0
@@ -91,7 +91,7 @@ counts_still turns xs p d new lt same h = record {
 first_took : (x : Sitting) → IsFirst x → took_of x ≡ 0
 first_took x is =
     let open_still : over_if x.end ≡ 0 = ap over_if is.open_still in
-    omega (arith, is.none, open_still)
+    omega (arith, is.none, is.unwaited, open_still)
 
 none_by : (i n : ℕ) (turns : List Turn) → n ≤ i → AllByRecursion (λ t. t.which < n) turns → turns_by i turns ≡ 0
 none_by i n [] le h = refl

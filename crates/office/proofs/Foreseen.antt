@@ -16,7 +16,7 @@ use Rattle.office.specs.declared.requests.foreseeing.Prospect.{Prospect}
 use Rattle.office.specs.declared.requests.foreseeing.Errand.{Errand}
 use Rattle.office.specs.Admitted.{IsAdmitted, ReachesBoxes}
 use Rattle.office.specs.Foreseeing.{ComesTo, Foresees, IsErrandOf, IsForeseen, IsReadOf, IsUpload}
-use Rattle.office.specs.Readable.{IsReadable}
+use Rattle.sigtext.specs.Readable.{IsReadable}
 use Rattle.office.specs.Replying.{IsNoRefusal, IsReceiptFor, IsReplied}
 use Rattle.office.specs.Rules.{Rule}
 

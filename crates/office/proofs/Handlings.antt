@@ -27,7 +27,7 @@ use Rattle.office.specs.Connections.{MayGiveUp, TellsFaults}
 use Rattle.office.specs.Handling.{Handles, MayBeGivenUp, end_of, answered, gave_up_at, broke, broke_giving_up_at}
 use Rattle.office.specs.Offices.{IsTryAgain, IsAnswered}
 use Rattle.office.specs.Premise.{HoldsUnless, HoldsUp, IsLeft}
-use Rattle.office.specs.Readable.{IsReadable}
+use Rattle.sigtext.specs.Readable.{IsReadable}
 use Rattle.office.specs.Sent.{IsSent}
 use Rattle.office.specs.Sessions.{closing}
 use Rattle.office.specs.Stepping.{IsClosed, TellsStep}

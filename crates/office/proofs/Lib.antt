@@ -21,14 +21,17 @@ pub mod Standing
 pub mod Placing
 pub mod Begun
 pub mod BodySteps
+pub mod BodyWaits
+pub mod StepWaits
+pub mod Resumptions
 pub mod KeeperCalls
 pub mod Questions
+pub mod StagedSoFar
 pub mod Stagings
 mod Foreseen
 mod Staged
 mod Unstaged
 mod Replied
-pub mod StagedSoFar
 pub mod RunTurns
 pub mod SeatTurns
 pub mod Sitting
@@ -38,4 +41,6 @@ pub mod CrowdTurns
 pub mod WithoutInTurn
 pub mod Endings
 pub mod Turns
+pub mod Asides
+pub mod SeatAsides
 pub mod ReplayLemmas

@@ -20,7 +20,7 @@ use Rattle.wire.specs.Framing.{Next}
 use Rattle.wire.specs.Framing as frame
 use Rattle.office.specs.Admitted.{ReachesBoxes}
 use Rattle.office.specs.Answering.{AnswersRequest, Replies, accepts, fetch, post, put, refuses, shown}
-use Rattle.office.specs.Readable.{IsReadable}
+use Rattle.sigtext.specs.Readable.{IsReadable}
 use Rattle.office.specs.Repeats.{Act, Acts, text_of, AreSessionActs, AreActs, IsUploadOf, GotReceipt, DropsFile, LeavesFile}
 use Rattle.office.specs.Repeats as act
 use Rattle.office.specs.Rules.{IsPut, IsPost, IsFetch, Asks, place_of, upload_of}

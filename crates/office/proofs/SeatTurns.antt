@@ -3,11 +3,10 @@ use Rattle.std.proofs.Common.{◌≡◌, ◌<◌, ◌≤◌, ◌+◌, ℕ, zero,
 use Rattle.std.specs.Prelude.{⊤}
 use Rattle.std.specs.List.{AllByRecursion, sum_by}
 use Rattle.std.proofs.lemmas.List.Sums.{sum_by-cons}
-use Rattle.std.specs.Io.KnownBytes.{Appends, Keeps, prepend_known}
+use Rattle.std.specs.Io.KnownBytes.{Appends, Keeps}
 use Rattle.sigtext.specs.Counts.{Rose}
 use Rattle.boxes.specs.declared.keep.Keeper.{Ghosts}
 use Rattle.boxes.specs.State.{State}
-use Rattle.wire.specs.Feeds.{ahead_of}
 use Rattle.wire.specs.declared.counted.Counted.{Counted}
 use Rattle.wire.specs.declared.feed.Place.{Place}
 use Rattle.wire.specs.declared.feed.Place.TheVariants as place
@@ -17,19 +16,20 @@ use Rattle.office.specs.Crashes.{Survives}
 use Rattle.office.specs.Interleaved.{GaveUpWithinMessages, HaveGivenUp, Interleaved, SpeakInTurns, Thread, Turn, acts_in}
 use Rattle.office.specs.Premise.{IsLeft}
 use Rattle.office.specs.Repeats.{RepeatsOnce}
-use Rattle.wire.specs.Seats.{Gathers, Sends, IsNew, left_of}
-use Rattle.office.specs.Seats.{AreThreads, HaveTurns, LastsOver, IsStreamOf, StaysSo, TakesTurn, TellsOneMoment, TellsTurn, TellsTurnOf, had_ended, went_on, ended, turns_of}
+use Rattle.wire.specs.Seats.{Gathers, Sends, IsNew, left_behind, left_of}
+use Rattle.office.specs.Seats.{AreThreads, HaveTurns, LastsOver, IsStreamOf, StaysSo, TakesTurn, TellsOneMoment, TellsTurn, TellsTurnOf, had_ended, went_on, read_on, ended, turns_of, waits_of}
 use Rattle.office.specs.Sessions.{most_messages}
 use Rattle.office.specs.Stepping.{Steps, TellsStep}
 use Rattle.wire.specs.declared.seat.Seat.{Seat}
+use Rattle.wire.specs.declared.underway.Underway.{Underway}
 use Rattle.wire.specs.declared.session.SessionEnd.{SessionEnd}
 use Rattle.office.proofs.Counting.{AllTook, took_of}
 use Rattle.office.proofs.Endurance.{survives_more}
 use Rattle.office.proofs.Repeats.{repeats_once}
 use Rattle.office.proofs.RunSoFar.{MeansOne}
-use Rattle.office.proofs.Sitting.{Lost, Sitting, answered, closed, gathered, sent_on}
+use Rattle.office.proofs.Sitting.{Lost, Sitting, answered, closed, gathered, reads_on, sent_on}
 use Rattle.wire.proofs.Ties.{none_is}
-use Rattle.office.proofs.Weaving.{AreThreadsOf, IsThreadOf, SoFar, all_last, answered_more, closed_more, finishes, gathered_more, lost_of, none_gave_up, opens, sent_more, threads_rose}
+use Rattle.office.proofs.Weaving.{AreThreadsOf, IsThreadOf, SoFar, all_last, answered_more, closed_more, finishes, gathered_more, lost_of, none_gave_up, opens, read_on_more, sent_more, threads_rose}
 
 -- the same step, with equal places and bytes
 pub steps_by : {C K : Type 0} (gives : C → ℕ → C → Type 0) (p p' : Place) (old old' new new' reader reader' output output' : Option (List ℕ)) (clock clock' : C) (k : Ghosts K) (keeper keeper' : K) (s : State) (e : Option SessionEnd)
@@ -40,15 +40,6 @@ steps_by gives p p' old old' new new' reader reader' output output' clock clock'
     (subst (λ x. Steps gives p x new' reader' output output' clock clock' k keeper keeper' s e) eo
     (subst (λ x. Steps gives p old x reader' output output' clock clock' k keeper keeper' s e) en
     (subst (λ x. Steps gives p old new x output output' clock clock' k keeper keeper' s e) er h)))
-
--- the step of a feed that was resumed with what its seat's feed had read
-pub steps_of : {C K R W : Type 0} (gives : C → ℕ → C → Type 0) (remaining : R → Option (List ℕ)) (seat : Seat R W) (standing : Standing) (new reader output output' : Option (List ℕ)) (clock clock' : C) (k : Ghosts K) (keeper keeper' : K)
-    (s : State) (e e' : Option SessionEnd) → standing ≡ seat.standing → e ≡ e'
-    → Steps gives place.Between (prepend_known (ahead_of standing) (remaining seat.reader.inner)) new reader output output' clock clock' k keeper keeper' s e
-    → Steps gives place.Between (left_of remaining seat) new reader output output' clock clock' k keeper keeper' s e'
-steps_of gives remaining seat standing new reader output output' clock clock' k keeper keeper' s e e' is ended_so h =
-    subst (λ x. Steps gives place.Between (left_of remaining seat) new reader output output' clock clock' k keeper keeper' s x) ended_so
-    (subst (λ (x : Standing). Steps gives place.Between (prepend_known (ahead_of x) (remaining seat.reader.inner)) new reader output output' clock clock' k keeper keeper' s e) is h)
 
 -- ---- the faults that were told
 
@@ -133,6 +124,7 @@ module _ {R W : Type 0} (remaining : R → Option (List ℕ)) (contents : W → 
     output = contents first.writer.inner;
     written = contents now.writer.inner;
     served = now.served;
+    waited = waits_of now;
     end = now.end;
     gave_up = gave_up;
     lost = lost;
@@ -178,19 +170,24 @@ module _ {R W : Type 0} (remaining : R → Option (List ℕ)) (contents : W → 
     pub are : AreSittings fs ns sittings
     pub so_far : SoFar gives k sittings whose clock clock' keeper keeper' s after
 
-  -- the sitting is the same if as many messages were served and the connection ended the same way
-  same_sitting : (first new : Seat R W) (served : ℕ) (e : Option SessionEnd) (gave_up : Bool) (lost : Option Lost) → new.served ≡ served → new.end ≡ e
-      → record (sitting_of first new gave_up lost) { served = served; end = e } ≡ sitting_of first new gave_up lost
-  same_sitting first new served e gave_up lost same is =
-      ap (λ (n : ℕ). record (sitting_of first new gave_up lost) { served = n; end = e }) (sym same)
-      ∙ ap (λ (o : Option SessionEnd). record (sitting_of first new gave_up lost) { served = new.served; end = o }) (sym is)
+  -- The sitting is the same if as many messages were served, as many turns only read on, and the connection
+  -- ended the same way.
+  same_sitting : (first new : Seat R W) (served waited : ℕ) (e : Option SessionEnd) (gave_up : Bool) (lost : Option Lost) → new.served ≡ served → waits_of new ≡ waited → new.end ≡ e
+      → record (sitting_of first new gave_up lost) { served = served; waited = waited; end = e } ≡ sitting_of first new gave_up lost
+  same_sitting first new served waited e gave_up lost same as_long is =
+      ap (λ (n : ℕ). record (sitting_of first new gave_up lost) { served = n; waited = waited; end = e }) (sym same)
+      ∙ ap (λ (n : ℕ). record (sitting_of first new gave_up lost) { served = new.served; waited = n; end = e }) (sym as_long)
+      ∙ ap (λ (o : Option SessionEnd). record (sitting_of first new gave_up lost) { served = new.served; waited = waits_of new; end = o }) (sym is)
+
+  same_waits : (old new : Seat R W) → new.waited ≡ old.waited → waits_of new ≡ waits_of old
+  same_waits old new is = rw is refl
 
   module _ {C K : Type 0} {whose : List ℕ} (gives : C → ℕ → C → Type 0) (k : Ghosts K) (fs ns : List (Seat R W)) (clock clock' clock'' : C) (keeper keeper' keeper'' : K) (s mid after : State)
       (p : ℕ) (d new : Seat R W) (lt : p < length ns) (open_there : (get_or ns p d).end ≡ None) where
     pub turns_more : TakesTurn gives remaining contents (get_or ns p d) new clock' clock'' k keeper' keeper'' mid after
         → TurnsMore gives k fs ns whose clock clock' keeper keeper' s mid → TurnsMore gives k fs (set ns p new) (whose ++ p ∷ []) clock clock'' keeper keeper'' s after
     turns_more (had_ended e is same_seat same_clock same_keeper same_state) t = absurd (none_is e (sym open_there ∙ is))
-    turns_more (went_on was_open is_open served goes) t =
+    turns_more (went_on was_open is_open served kept_waits goes) t =
         let dx = sitting_of d d false None in
         let at = stands_there fs ns t.sittings p d dx lt t.are in
         let old = get_or ns p d in
@@ -199,11 +196,27 @@ module _ {R W : Type 0} (remaining : R → Option (List ℕ)) (contents : W → 
         let y = answered z (left_of remaining new) (remaining new.reader.inner) (contents new.writer.inner) in
         record {
           sittings = set t.sittings p y;
-          are = at.more new y (same_sitting at.first new (old.served + 1) old.end x.gave_up x.lost served (is_open ∙ sym was_open));
+          are = at.more new y (same_sitting at.first new (old.served + 1) (waits_of old) old.end x.gave_up x.lost served (same_waits old new kept_waits) (is_open ∙ sym was_open));
           so_far = answered_more gives k t.sittings clock clock' keeper keeper' s mid t.so_far p dx z at.within at.is was_open
               (left_of remaining new) (remaining new.reader.inner) (contents new.writer.inner) clock'' keeper'' after (subst (λ n. n ≤ most_messages) served new.few) goes;
         }
-    turns_more (ended n e was_open is served sum serves once begun) t =
+    turns_more (read_on was_open is_open served waited keeps stood same_state) t =
+        let dx = sitting_of d d false None in
+        let at = stands_there fs ns t.sittings p d dx lt t.are in
+        let old = get_or ns p d in
+        let x = get_or t.sittings p dx in
+        let z = sitting_of at.first old x.gave_up x.lost in
+        let y = reads_on z (left_of remaining new) (remaining new.reader.inner) in
+        let unwritten : z.written ≡ contents new.writer.inner = ap (λ (w : Counted W). contents w.inner) (sym stood.written) in
+        record {
+          sittings = set t.sittings p y;
+          are = at.more new y (ap (λ (o : Option (List ℕ)). record y { written = o }) unwritten ∙ same_sitting at.first new old.served (waits_of old + 1) old.end x.gave_up x.lost served waited (is_open ∙ sym was_open));
+          so_far = subst (λ (c : C). SoFar gives k (set t.sittings p y) (whose ++ p ∷ []) clock c keeper keeper'' s after) (sym stood.told)
+              (subst (λ (a : State). SoFar gives k (set t.sittings p y) (whose ++ p ∷ []) clock clock' keeper keeper'' s a) (sym same_state)
+              (read_on_more gives k t.sittings clock clock' keeper keeper' s mid t.so_far p dx z at.within at.is was_open
+              (left_of remaining new) (remaining new.reader.inner) keeper'' keeps stood.held stood.lasts));
+        }
+    turns_more (ended n e was_open is served kept_waits sum serves once begun) t =
         let dx = sitting_of d d false None in
         let at = stands_there fs ns t.sittings p d dx lt t.are in
         let old = get_or ns p d in
@@ -212,7 +225,7 @@ module _ {R W : Type 0} (remaining : R → Option (List ℕ)) (contents : W → 
         let y = closed z (left_of remaining new) (remaining new.reader.inner) (contents new.writer.inner) e serves.gave_up (lost_of serves.session) in
         record {
           sittings = set t.sittings p y;
-          are = at.more new y (same_sitting at.first new old.served (Some e) serves.gave_up (lost_of serves.session) served is);
+          are = at.more new y (same_sitting at.first new old.served (waits_of old) (Some e) serves.gave_up (lost_of serves.session) served (same_waits old new kept_waits) is);
           so_far = closed_more gives k t.sittings clock clock' keeper keeper' s mid t.so_far p dx z at.within at.is was_open
               (left_of remaining new) (remaining new.reader.inner) (contents new.writer.inner) clock'' keeper'' after n e sum serves once begun;
         }
@@ -222,9 +235,13 @@ module _ {R W : Type 0} (remaining : R → Option (List ℕ)) (contents : W → 
   -- the sitting is the same except for what was sent
   sent_is : (first old new : Seat R W) (gave_up : Bool) (lost : Option Lost) → Sends contents old new → sent_on (sitting_of first old gave_up lost) (contents new.writer.inner) ≡ sitting_of first new gave_up lost
   sent_is first old new gave_up lost g =
-      ap (λ (l : Standing). record (sitting_of first new gave_up lost) { left = prepend_known (ahead_of l) (remaining old.reader.inner); reader = remaining old.reader.inner; served = old.served; end = old.end }) (sym g.standing)
-      ∙ ap (λ (r : Counted R). record (sitting_of first new gave_up lost) { left = prepend_known (ahead_of new.standing) (remaining r.inner); reader = remaining r.inner; served = old.served; end = old.end }) (sym g.reader)
-      ∙ same_sitting first new old.served old.end gave_up lost g.served g.end
+      let same : left_of remaining old ≡ left_of remaining new =
+      ap (λ (l : Standing). left_behind old.underway l (remaining old.reader.inner)) (sym g.standing)
+      ∙ ap (λ (u : Option Underway). left_behind u new.standing (remaining old.reader.inner)) (sym g.underway)
+      ∙ ap (λ (r : Counted R). left_behind new.underway new.standing (remaining r.inner)) (sym g.reader) in
+      ap (λ (l : Option (List ℕ)). record (sitting_of first new gave_up lost) { left = l; reader = remaining old.reader.inner; served = old.served; waited = waits_of old; end = old.end }) same
+      ∙ ap (λ (r : Counted R). record (sitting_of first new gave_up lost) { reader = remaining r.inner; served = old.served; waited = waits_of old; end = old.end }) (sym g.reader)
+      ∙ same_sitting first new old.served (waits_of old) old.end gave_up lost g.served (same_waits old new g.waited) g.end
 
   module _ {C K : Type 0} {whose : List ℕ} (gives : C → ℕ → C → Type 0) (k : Ghosts K) (fs ns : List (Seat R W)) (clock clock' : C) (keeper keeper' : K) (s mid : State) where
     pub gathered_seat : (p : ℕ) (d new : Seat R W) → p < length ns → (get_or ns p d).end ≡ None → Gathers remaining (get_or ns p d) new
@@ -238,7 +255,7 @@ module _ {R W : Type 0} (remaining : R → Option (List ℕ)) (contents : W → 
         let y = gathered z (left_of remaining new) (remaining new.reader.inner) in
         record {
           sittings = set t.sittings p y;
-          are = at.more new y (ap (λ (w : Counted W). record y { written = contents w.inner }) (sym g.writer) ∙ same_sitting at.first new old.served old.end x.gave_up x.lost g.served g.end);
+          are = at.more new y (ap (λ (w : Counted W). record y { written = contents w.inner }) (sym g.writer) ∙ same_sitting at.first new old.served (waits_of old) old.end x.gave_up x.lost g.served (same_waits old new g.waited) g.end);
           so_far = gathered_more gives k t.sittings clock clock' keeper keeper' s mid t.so_far p dx z at.within at.is is_open (left_of remaining new) (remaining new.reader.inner) g.keeps;
         }
 
@@ -263,7 +280,7 @@ module _ {R W : Type 0} (remaining : R → Option (List ℕ)) (contents : W → 
       sittings = t.sittings ++ sitting_of new new false None ∷ [];
       are = are_more fs ns t.sittings new t.are;
       so_far = opens gives k t.sittings clock clock' keeper keeper' s mid t.so_far (sitting_of new new false None)
-          (record { all = refl; unwritten = refl; none = is.none; open_still = is.open_still; marked = refl; unlost = refl });
+          (record { all = refl; unwritten = refl; none = is.none; unwaited = ap length is.unwaited; open_still = is.open_still; marked = refl; unlost = refl });
     }
 
   -- reading ahead counts no fault

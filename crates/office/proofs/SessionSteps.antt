@@ -84,8 +84,8 @@ is_stream (Some p) Holds o = sym o.is
 pub brought_by : (fields : List Field) (old new reader : Option (List ℕ)) (p : Place) (x y : Came) → x ≡ y → Brings x fields old new reader p → Brings y fields old new reader p
 brought_by fields old new reader p x y is h = subst (λ (z : Came). Brings z fields old new reader p) is h
 
-pub broke_off_by : (p : Place) (old reader : Option (List ℕ)) (x y : WireFault) → x ≡ y → BreaksOff x p old reader → BreaksOff y p old reader
-broke_off_by p old reader x y is h = subst (λ (z : WireFault). BreaksOff z p old reader) is h
+pub broke_off_by : (p : Place) (old new reader : Option (List ℕ)) (q : Place) (x y : WireFault) → x ≡ y → BreaksOff x p old new reader q → BreaksOff y p old new reader q
+broke_off_by p old new reader q x y is h = subst (λ (z : WireFault). BreaksOff z p old new reader q) is h
 
 -- ---- a step and those that follow
 
@@ -397,7 +397,7 @@ pub before_quiet : {K : Type 0} (k : Ghosts K) (a b : K) (s : State) (gave_up : 
 before_quiet k a b s gave_up quiet other means honest =
     record { faults = quiet.rest.counted other; open_still = λ was. quiet.rest.opened honest was other; adds = quiet.crash s means honest }
 
-before_held : {K : Type 0} (k : Ghosts K) (a b c : K) (s : State) → Before k a b s → HoldsUp k false b c → HoldsUp k false a c
+pub before_held : {K : Type 0} (k : Ghosts K) (a b c : K) (s : State) → Before k a b s → HoldsUp k false b c → HoldsUp k false a c
 before_held k a b c s x held = holds_more k a b c false (x.faults, x.open_still) held
 
 pub steps_after : {C K : Type 0} (gives : C → ℕ → C → Type 0) (p : Place) (left left' reader output output' : Option (List ℕ)) (clock clock' : C) (k : Ghosts K) (a b c : K) (s : State) (end : Option SessionEnd)

@@ -36,6 +36,7 @@ pub record Sitting : Type 0 where
   pub output : Option (List ℕ)
   pub written : Option (List ℕ)
   pub served : ℕ
+  pub waited : ℕ
   pub end : Option SessionEnd
   pub gave_up : Bool
   pub lost : Option Lost
@@ -127,6 +128,7 @@ pub record IsFirst (x : Sitting) : Type 0 where
   pub all : x.left ≡ x.input
   pub unwritten : x.written ≡ x.output
   pub none : x.served ≡ 0
+  pub unwaited : x.waited ≡ 0
   pub open_still : x.end ≡ None
   pub marked : x.gave_up ≡ false
   pub unlost : x.lost ≡ None
@@ -194,6 +196,32 @@ gathered_sits x left reader turns keeps h = record {
   behind = h.behind;
   follows = h.follows;
 }
+
+-- ---- it reads on in its next message
+
+abbrev pub reads_on : Sitting → Option (List ℕ) → Option (List ℕ) → Sitting
+reads_on x left reader = record x { left = left; reader = reader; waited = x.waited + 1 }
+
+pub read_on_sits : (x : Sitting) (left reader : Option (List ℕ)) (t : Turn) (turns : List Turn) → t.moments ≡ [] → t.acts ≡ [] → Keeps x.left left → Heard x turns → Heard (reads_on x left reader) (turns ++ t ∷ [])
+read_on_sits x left reader t turns told acted keeps h =
+    let same : acts_in (turns ++ t ∷ []) ≡ acts_in turns = acts_more turns t ∙ ap (λ (l : List Act). acts_in turns ++ l) acted ∙ append-nil (acts_in turns) in
+    let none : moments_in (turns ++ t ∷ []) ≡ moments_in turns = moments_more turns t ∙ ap (λ (l : List ℕ). moments_in turns ++ l) told ∙ append-nil (moments_in turns) in
+    record {
+      front = h.front;
+      text = h.text;
+      taken = Consumes-kept x.input x.left left h.front h.taken keeps;
+      written_to = h.written_to;
+      few = h.few;
+      marked = h.marked;
+      unlost = h.unlost;
+      tied = none ∙ h.tied ∙ ap nows (sym same);
+      behind = λ stream rest later there.
+          behind_by (h.front ++ stream) (h.front ++ stream) (acts_in turns ++ later) (acts_in (turns ++ t ∷ []) ++ later) rest refl (ap (λ (l : List Act). l ++ later) (sym same)) (h.behind stream rest later there);
+      follows = λ n m stream later out e gave_up is sp.
+          let one = said.reads_on n stream t later out e gave_up told acted sp in
+          speaks_by m (h.front ++ stream) (h.front ++ stream) (turns ++ (t ∷ later)) ((turns ++ t ∷ []) ++ later) (h.text ++ out) (h.text ++ out) e gave_up
+          refl (sym (append_assoc turns (t ∷ []) later)) refl (h.follows n m stream (t ∷ later) out e gave_up is one);
+    }
 
 -- ---- its next message is answered
 

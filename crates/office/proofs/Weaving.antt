@@ -30,7 +30,7 @@ use Rattle.office.proofs.RunSoFar.{told_more}
 use Rattle.office.proofs.SessionSteps.{few_moments}
 use Rattle.office.proofs.Unstaged.{rose_before, rose_later}
 use Rattle.office.proofs.RunTurns.{acts_joined, less_is_not, none_whole, same_is, speaks_of, tied_of}
-use Rattle.office.proofs.Sitting.{IsLost, IsLostIn, Lost, Sitting, Sits, SitsSo, IsFirst, act_of, acts_more, moments_more, answered, answered_sits, closed, closed_sits, first_sits, gathered, gathered_sits, open_sits, sent_on, sent_sits, sits_open}
+use Rattle.office.proofs.Sitting.{IsLost, IsLostIn, Lost, Sitting, Sits, SitsSo, IsFirst, act_of, acts_more, moments_more, answered, answered_sits, closed, closed_sits, first_sits, gathered, gathered_sits, open_sits, sent_on, sent_sits, sits_open, reads_on, read_on_sits}
 
 -- ---- one more turn at the end
 
@@ -307,6 +307,30 @@ module _ {C K : Type 0} (gives : C → ℕ → C → Type 0) (k : Ghosts K) wher
       unmarked : x.gave_up ≡ false
       unmarked = subst (λ (y : Sitting). y.gave_up ≡ false) at (heard_at f.turns 0 p d xs lt (subst (λ (y : Sitting). y.end ≡ None) (sym at) is_open) f.sit)
 
+      -- it reads on in its next message
+      pub read_on_more : (left reader : Option (List ℕ)) (keeper'' : K) → Keeps x.left left → HoldsUp k false keeper' keeper'' → LastsThrough k keeper' keeper'' mid mid
+          → SoFar gives k (set xs p (reads_on x left reader)) (whose ++ p ∷ []) clock clock' keeper keeper'' s mid
+      read_on_more left reader keeper'' keeps held lasts =
+          moves_more xs p d (reads_on x left reader) clock clock' clock' keeper keeper' keeper'' s mid mid lt f
+          (subst (λ (y : Sitting). Moves y (reads_on x left reader) clock' clock' keeper' keeper'' mid mid) (sym at) (record {
+            acts = [];
+            moments = [];
+            told = refl;
+            tied = inl refl;
+            one_moment = omega arith;
+            took = omega arith;
+            by_rules = refl;
+            moves = λ t told acted before h. sits_open (reads_on x left reader) (before ++ t ∷ []) is_open
+                (read_on_sits x left reader t before told acted keeps (open_sits x before is_open h));
+            marked = unmarked;
+            kept = λ r now h. h;
+            never_less = held_least k false keeper' keeper'' held;
+            rose = unmarked_rose (k.faults keeper') (k.faults keeper'') (reads_on x left reader) unmarked;
+            held = λ _. held;
+            lasts = λ _. lasts;
+            survives = survives_through lasts;
+          }))
+
       -- its next message is answered
       pub answered_more : (left reader written : Option (List ℕ)) (clock'' : C) (keeper'' : K) (after : State) → x.served + 1 ≤ most_messages
           → Goes gives x.left left x.written written clock' clock'' k keeper' keeper'' mid after
@@ -468,6 +492,9 @@ spoken_of _ _ _ _ _ _ (said.goes_on n stream rest t a turns out e gave_up told a
     subst (λ l. Speaks (suc n) stream (l ++ acts_in turns) (t.moments ++ moments_in turns) (text_of a ++ out) e gave_up) (sym acted)
     (subst (λ l. Speaks (suc n) stream (a ∷ acts_in turns) (l ++ moments_in turns) (text_of a ++ out) e gave_up) (sym told)
     (said.answered n stream rest a (acts_in turns) (moments_in turns) out e gave_up next (spoken_of n rest turns out e gave_up more)))
+spoken_of _ _ _ _ _ _ (said.reads_on n stream t turns out e gave_up told acted more) =
+    subst (λ l. Speaks n stream (l ++ acts_in turns) (t.moments ++ moments_in turns) out e gave_up) (sym acted)
+    (subst (λ l. Speaks n stream (acts_in turns) (l ++ moments_in turns) out e gave_up) (sym told) (spoken_of n stream turns out e gave_up more))
 spoken_of _ _ _ _ _ _ (said.ends n stream t out e gave_up last none) =
     subst (λ l. Speaks n stream l (t.moments ++ []) out (Some e) gave_up) (sym (append-nil t.acts))
     (subst (λ l. Speaks n stream t.acts l out (Some e) gave_up) (sym (append-nil t.moments)) last)

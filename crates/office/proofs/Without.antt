@@ -6,7 +6,7 @@ use Rattle.boxes.specs.State.{State}
 use Rattle.wire.specs.Framing.{HasHead, Next}
 use Rattle.wire.specs.Framing as frame
 use Rattle.office.specs.Answering.{AnswersRequest}
-use Rattle.office.specs.Readable.{IsReadable}
+use Rattle.sigtext.specs.Readable.{IsReadable}
 use Rattle.office.specs.Sessions.{Session, Connection, Run, MayGiveUpReading, closing, most_messages}
 use Rattle.office.specs.Sessions as session
 use Rattle.office.specs.WithoutTryAgain.{GivesUp, IsGivenUpBy, IsCutShort, RunsWithout}

@@ -53,8 +53,8 @@ pub record ServesCrowd {C K R W : Type 0} (gives : C → ℕ → C → Type 0) (
   pub whose : map (λ t. first + t.which) run.turns ≡ given
   pub each_counted : HaveTurns run.turns 0 seats
   pub one_moment : AllByRecursion TellsOneMoment run.turns
-  -- Each turn of a connection answers exactly one message in full, except the turn in which it ends. That one
-  -- is its last and answers none in full.
+  -- Each turn of a connection answers exactly one message in full, or only reads on and tells no moment, except
+  -- the turn in which it ends. That one is its last and answers none in full.
   pub by_turns : SpeakInTurns run.turns 0 threads
   -- A connection gave up only within a message that had begun: never before bytes of it were read.
   pub begun : GaveUpWithinMessages run.turns 0 threads

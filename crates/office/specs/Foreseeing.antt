@@ -21,7 +21,7 @@ use Rattle.office.specs.declared.requests.foreseeing.Errand.TheVariants as erran
 use Rattle.office.specs.declared.requests.foreseeing.Prospect.{Prospect}
 use Rattle.office.specs.declared.requests.foreseeing.Body.{Body}
 use Rattle.office.specs.Admitted.{IsAdmitted, ReachesBoxes}
-use Rattle.office.specs.Readable.{IsReadable}
+use Rattle.sigtext.specs.Readable.{IsReadable}
 use Rattle.office.specs.Rules.{IsPut, IsPost, IsFetch, Rule, place_of}
 
 -- the request's link has these parts, and this key signed it, which exists and is not revoked

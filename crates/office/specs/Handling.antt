@@ -13,7 +13,7 @@ use Rattle.office.specs.declared.connections.handling.Handled.TheVariants.{Answe
 use Rattle.office.specs.Answering.{AnswersRequest}
 use Rattle.office.specs.Crashes.{AddsAsked, IsAsked, LastsThrough}
 use Rattle.office.specs.Premise.{HoldsUp, IsLeft}
-use Rattle.office.specs.Readable.{IsReadable}
+use Rattle.sigtext.specs.Readable.{IsReadable}
 use Rattle.office.specs.Sessions.{closing}
 
 -- refusal 40 was written, or writing broke off

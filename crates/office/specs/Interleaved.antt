@@ -6,7 +6,7 @@ use Rattle.sigtext.specs.Request.{Request}
 use Rattle.boxes.specs.State.{State}
 use Rattle.wire.specs.Framing.{Next}
 use Rattle.wire.specs.Framing as frame
-use Rattle.office.specs.Readable.{IsReadable}
+use Rattle.sigtext.specs.Readable.{IsReadable}
 use Rattle.office.specs.Repeats.{Act, Acts, text_of}
 use Rattle.office.specs.Sessions.{Connection, HasBegunMessage, Session, most_messages}
 use Rattle.office.specs.WithoutTryAgain.{IsLastRefusal}
@@ -86,13 +86,16 @@ abbrev pub AnswersNone : {n : ℕ} {stream : List ℕ} {acts : List Act} {moment
 AnswersNone (answered n stream rest a acts moments out e gave_up next more) = ⊥
 AnswersNone _ = ⊤
 
--- The same turn by turn. A turn answers one message in full and the connection goes on. Or it is the last
--- one, in which the connection ends and no message is answered in full.
+-- The same turn by turn. A turn answers one message in full and the connection goes on. Or it only reads on: it
+-- tells no moment and answers nothing. Or it is the last one, in which the connection ends and no message is
+-- answered in full.
 pub data SpeaksInTurns : ℕ → List ℕ → List Turn → List ℕ → Option SessionEnd → Bool → Type 0 where
   no_more : (n : ℕ) → SpeaksInTurns n [] [] [] None false
   goes_on : (n : ℕ) (stream rest : List ℕ) (t : Turn) (a : Act) (turns : List Turn) (out : List ℕ) (e : Option SessionEnd) (gave_up : Bool)
       → t.moments ≡ a.now ∷ [] → t.acts ≡ a ∷ [] → Next stream (frame.Message a.request) rest → SpeaksInTurns n rest turns out e gave_up
       → SpeaksInTurns (suc n) stream (t ∷ turns) (text_of a ++ out) e gave_up
+  reads_on : (n : ℕ) (stream : List ℕ) (t : Turn) (turns : List Turn) (out : List ℕ) (e : Option SessionEnd) (gave_up : Bool)
+      → t.moments ≡ [] → t.acts ≡ [] → SpeaksInTurns n stream turns out e gave_up → SpeaksInTurns n stream (t ∷ turns) out e gave_up
   ends : (n : ℕ) (stream : List ℕ) (t : Turn) (out : List ℕ) (e : SessionEnd) (gave_up : Bool)
       → (last : Speaks n stream t.acts t.moments out (Some e) gave_up) → AnswersNone last → SpeaksInTurns n stream (t ∷ []) out (Some e) gave_up
 

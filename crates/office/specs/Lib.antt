@@ -14,7 +14,6 @@ pub mod Interleaved
 pub mod Offices
 pub mod Places
 pub mod Premise
-pub mod Readable
 pub mod Receiving
 pub mod Repeats
 pub mod Replays
@@ -24,5 +23,7 @@ pub mod Seats
 pub mod Sent
 pub mod Sessions
 pub mod Stepping
+pub mod Resuming
+pub mod Turning
 pub mod WithoutTryAgain
 pub mod WithoutTurns

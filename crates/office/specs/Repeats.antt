@@ -11,7 +11,7 @@ use Rattle.wire.specs.Framing.{Next}
 use Rattle.wire.specs.Framing as frame
 use Rattle.office.specs.Admitted.{ReachesBoxes}
 use Rattle.office.specs.Answering.{Replies, is_head}
-use Rattle.office.specs.Readable.{IsReadable}
+use Rattle.sigtext.specs.Readable.{IsReadable}
 use Rattle.office.specs.Rules.{IsPut, IsPost, place_of, Asks}
 use Rattle.office.specs.Sessions.{Session, Connection, most_messages}
 use Rattle.office.specs.WithoutTryAgain.{IsLastRefusal}

@@ -1,6 +1,6 @@
 -- Connections that are served in turns, before and after.
 use Rattle.std.specs.Prelude.{◌≡◌, ◌≤◌, ◌+◌, ◌⊎◌, ℕ, suc, Bool, true, false, cond, is_some, List, [], ◌∷◌, length, Option, Some, None, ⊤}
-use Rattle.std.specs.Io.KnownBytes.{Appends, Consumes}
+use Rattle.std.specs.Io.KnownBytes.{Appends, Consumes, Keeps}
 use Rattle.std.specs.List.{AllByRecursion}
 use Rattle.sigtext.specs.Counts.{Rose}
 use Rattle.boxes.specs.State.{State}
@@ -13,7 +13,11 @@ use Rattle.office.specs.Connections.{IsStream, Serves}
 use Rattle.office.specs.Crashes.{LastsThrough}
 use Rattle.office.specs.Interleaved.{Thread, Turn, turns_by}
 use Rattle.office.specs.Sessions.{EndsAtOnce, HasBegunMessage, most_messages}
-use Rattle.office.specs.Stepping.{Goes, TellsStep}
+use Rattle.office.specs.Stepping.{Goes, StandsBy, TellsStep}
+
+-- how many turns of a connection only read on
+abbrev pub waits_of : {R W : Type 0} → Seat R W → ℕ
+waits_of seat = length seat.waited.items
 
 -- One turn of a connection.
 pub data TakesTurn {C K R W : Type 0} (gives : C → ℕ → C → Type 0) (remaining : R → Option (List ℕ)) (contents : W → Option (List ℕ)) (old new : Seat R W) (clock clock' : C)
@@ -22,12 +26,16 @@ pub data TakesTurn {C K R W : Type 0} (gives : C → ℕ → C → Type 0) (rema
   had_ended : (e : SessionEnd) → old.end ≡ Some e → new ≡ old → clock' ≡ clock → keeper' ≡ keeper → after ≡ s
       → TakesTurn gives remaining contents old new clock clock' k keeper keeper' s after
   -- its next message was answered, and it goes on
-  went_on : old.end ≡ None → new.end ≡ None → new.served ≡ old.served + 1
+  went_on : old.end ≡ None → new.end ≡ None → new.served ≡ old.served + 1 → new.waited ≡ old.waited
       → Goes gives (left_of remaining old) (left_of remaining new) (contents old.writer.inner) (contents new.writer.inner) clock clock' k keeper keeper' s after
+      → TakesTurn gives remaining contents old new clock clock' k keeper keeper' s after
+  -- it read on in its next message, and goes on: nothing was told, written or answered
+  read_on : old.end ≡ None → new.end ≡ None → new.served ≡ old.served → waits_of new ≡ waits_of old + 1
+      → Keeps (left_of remaining old) (left_of remaining new) → StandsBy clock clock' old.writer new.writer k keeper keeper' s → after ≡ s
       → TakesTurn gives remaining contents old new clock clock' k keeper keeper' s after
   -- It ended like a session of n messages, where n is the most that were still to come. It did not go on
   -- after a message. If it gave up, it was within a message that had begun, so bytes of it were read.
-  ended : (n : ℕ) (e : SessionEnd) → old.end ≡ None → new.end ≡ Some e → new.served ≡ old.served → n + old.served ≡ most_messages
+  ended : (n : ℕ) (e : SessionEnd) → old.end ≡ None → new.end ≡ Some e → new.served ≡ old.served → new.waited ≡ old.waited → n + old.served ≡ most_messages
       → (serves : Serves n gives (left_of remaining old) (remaining new.reader.inner) (contents old.writer.inner) (contents new.writer.inner) clock clock' k keeper keeper' s after e)
       → EndsAtOnce serves.session → (serves.gave_up ≡ true → HasBegunMessage serves.stream) → TakesTurn gives remaining contents old new clock clock' k keeper keeper' s after
 
@@ -68,9 +76,10 @@ abbrev pub LastsOver : {K : Type 0} → Ghosts K → List Thread → K → K →
 LastsOver k threads keeper keeper' s after =
     AllByRecursion (λ c. (c.gave_up ≡ false) ⊎ (c.end ≡ Some ReadFault)) threads → LastsThrough k keeper keeper' s after
 
--- the number of turns of a connection: one for each message after which it went on, and one in which it ended
+-- the number of turns of a connection: one for each message after which it went on, those in which it only read
+-- on, and one in which it ended
 abbrev pub turns_of : {R W : Type 0} → Seat R W → ℕ
-turns_of seat = seat.served + cond (is_some seat.end) 1 0
+turns_of seat = seat.served + waits_of seat + cond (is_some seat.end) 1 0
 
 -- each connection, from number i on, has as many turns as it took
 abbrev pub HaveTurns : {R W : Type 0} → List Turn → ℕ → List (Seat R W) → Type 0

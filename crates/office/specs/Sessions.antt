@@ -14,7 +14,7 @@ use Rattle.sigtext.specs.Bytes.{IsBeginning}
 use Rattle.wire.specs.declared.session.SessionEnd.{SessionEnd}
 use Rattle.wire.specs.declared.session.SessionEnd.TheVariants.{Ended, Truncated, Refused, Limit, ReadFault, WriteFault}
 use Rattle.office.specs.Answering.{AnswersRequest}
-use Rattle.office.specs.Readable.{IsReadable}
+use Rattle.sigtext.specs.Readable.{IsReadable}
 
 -- the text of a refusal that closes the connection
 abbrev pub closing : Refusal → List ℕ

@@ -1,6 +1,7 @@
 -- One step of a session: it handles a message, or it ends the session.
-use Rattle.std.specs.Prelude.{◌≡◌, ◌≢◌, ◌⊎◌, ℕ, suc, Bool, true, List, ◌++◌, length, Option, Some, None, false, IsTrue, Result, Err}
-use Rattle.std.specs.Io.KnownBytes.{Appends, Consumes}
+use Rattle.std.specs.Prelude.{◌≡◌, ◌≢◌, ◌⊎◌, ◌≤◌, ℕ, suc, Bool, true, List, [], ◌++◌, length, take, Option, Some, None, false, IsSomeAnd, IsTrue, Result, Err, ⊤}
+use Rattle.std.specs.Io.KnownBytes.{Appends, Consumes, Keeps, prepend_known}
+use Rattle.sigtext.specs.Limits.{most_head}
 use Rattle.sigtext.specs.Bytes.{IsBeginning}
 use Rattle.sigtext.specs.declared.refusal.Refusal.{Refusal}
 use Rattle.sigtext.specs.declared.refusal.Refusal.TheVariants as rule
@@ -9,7 +10,12 @@ use Rattle.sigtext.specs.Request.{Request}
 use Rattle.boxes.specs.State.{State}
 use Rattle.boxes.specs.declared.keep.Keeper.{Ghosts}
 use Rattle.wire.specs.Framing.{Next, Message, request_of}
+use Rattle.wire.specs.Feeds.{given_of, left, place_of, reader_of, whole_left}
+use Rattle.wire.specs.Underways.{IsBegun}
+use Rattle.wire.specs.Waiting.{IsFree}
 use Rattle.wire.specs.Whole.{IsOpening}
+use Rattle.wire.specs.declared.backlog.Backlog.{Backlog}
+use Rattle.wire.specs.declared.feed.Feed.{Feed}
 use Rattle.wire.specs.declared.counted.Counted.{Counted}
 use Rattle.wire.specs.declared.feed.Place.{Place}
 use Rattle.wire.specs.declared.feed.Place.TheVariants as place
@@ -17,7 +23,10 @@ use Rattle.wire.specs.declared.session.SessionEnd.{SessionEnd}
 use Rattle.wire.specs.declared.session.SessionEnd.TheVariants.{Refused, WriteFault}
 use Rattle.office.specs.declared.requests.foreseeing.Prospect.{Prospect}
 use Rattle.office.specs.Answering.{AnswersRequest, is_head}
-use Rattle.office.specs.Connections.{Serves, TellsFaults}
+use Rattle.office.specs.Connections.{MayGiveUp, Serves, TellsFaults}
+use Rattle.office.specs.declared.connections.stepping.Begun.{Begun}
+use Rattle.office.specs.declared.connections.stepping.Stepped.{Stepped}
+use Rattle.office.specs.declared.connections.stepping.Stepped.TheVariants as stepped
 use Rattle.office.specs.Crashes.{LastsThrough}
 use Rattle.office.specs.Foreseeing.{Foresees}
 use Rattle.office.specs.Premise.{HoldsUnless, HoldsUp, IsLeft}
@@ -65,10 +74,9 @@ IsClosed old new q (Refused number) = (number ≡ number_of q) × Appends old ne
 IsClosed old new q WriteFault = (front : List ℕ) × Appends old new front × IsBeginning front (closing q)
 IsClosed old new q _ = ⊥
 
--- A head was read that announces a body of this size, and this was foreseen of its message with any body.
+-- The head was read, which announces a body of this size, and this was foreseen of its message with any body.
 -- known: what was left of the stream before the head; left: what is left after it.
-pub record IsExpected (s : State) (size : ℕ) (known left : Option (List ℕ)) (foreseen : Result Prospect Refusal) (to_head : Bool) : Type 0 where
-  pub text : List ℕ
+pub record IsExpected (s : State) (size : ℕ) (known left : Option (List ℕ)) (foreseen : Result Prospect Refusal) (to_head : Bool) (text : List ℕ) : Type 0 where
   pub has_length : Bool
   pub opening : IsOpening text has_length size known left
   pub foresees : (body : List ℕ) → length body ≡ size → Foresees s (request_of opening.opens.head has_length body) foreseen
@@ -81,3 +89,64 @@ abbrev pub LeavesOff : {K : Type 0} → Option (List ℕ) → Option (List ℕ) 
 LeavesOff output output' k old new is_upload e =
     (IsClosed output output' rule.BodyIncomplete e × HoldsUnless k old new ⊥)
     ⊎ (IsClosed output output' rule.TryAgain e × IsTrue is_upload)
+
+-- ---- steps that wait
+
+-- A message may begin after a step that is done and did not end the session.
+abbrev pub GoesOn : {R : Type 0} → Stepped → Feed R → Type 0
+GoesOn (stepped.Done None) feed = (place_of feed ≡ place.Between) × (given_of feed ≡ [])
+GoesOn (stepped.Done (Some e)) feed = ⊤
+GoesOn (stepped.Waits begun) feed = ⊤
+
+-- Nothing was told or written, and no message was answered. The keeper holds up, and a crash leaves nothing new
+-- except the state.
+pub record StandsBy {C K W : Type 0} (clock clock' : C) (writer writer' : Counted W) (k : Ghosts K) (keeper keeper' : K) (s : State) : Type 0 where
+  pub told : clock' ≡ clock
+  pub written : writer' ≡ writer
+  pub left : IsLeft (k.means keeper') s
+  pub held : HoldsUp k false keeper keeper'
+  pub lasts : LastsThrough k keeper keeper' s s
+
+-- No byte of the stream was lost, and a feed may go on with it. If a message was begun, its head is at the front
+-- of the block, and the feed stands in its body.
+abbrev pub ReadsOn : {R : Type 0} → (R → Option (List ℕ)) → Option (List ℕ) → Feed R → List ℕ → Option Begun → Type 0
+ReadsOn remaining known feed block None = (place_of feed ≡ place.Between) × (given_of feed ≡ []) × Keeps known (left remaining feed)
+ReadsOn remaining known feed block (Some b) =
+    (b.len ≤ most_head) × IsBegun (take b.len block) b.size b.kept (place_of feed) (given_of feed)
+    × Keeps known (prepend_known (take b.len block) (whole_left remaining feed))
+
+-- A feed that waits stands between two messages, or within the body of the one that has begun, whose head is at
+-- the front of the block.
+abbrev pub WaitsBehind : {R : Type 0} → Feed R → List ℕ → Stepped → Type 0
+WaitsBehind feed block (stepped.Done e) = ⊤
+WaitsBehind feed block (stepped.Waits None) = (place_of feed ≡ place.Between) × (given_of feed ≡ [])
+WaitsBehind feed block (stepped.Waits (Some b)) =
+    (b.len ≤ most_head) × IsBegun (take b.len block) b.size b.kept (place_of feed) (given_of feed)
+
+-- A step is done, or it waits. block: what is at the front of the block if it waits.
+abbrev pub StepsTo : {C K R W : Type 0} → (C → ℕ → C → Type 0) → Place → Option (List ℕ) → (R → Option (List ℕ)) → Feed R → Counted W → Counted W → (W → Option (List ℕ))
+    → C → C → Ghosts K → K → K → State → List ℕ → Stepped → Type 0
+StepsTo gives p known remaining feed writer writer' contents clock clock' k keeper keeper' s block (stepped.Done e) =
+    Steps gives p known (left remaining feed) (remaining (reader_of feed).inner) (contents writer.inner) (contents writer'.inner) clock clock' k keeper keeper' s e
+StepsTo gives p known remaining feed writer writer' contents clock clock' k keeper keeper' s block (stepped.Waits begun) =
+    ReadsOn remaining known feed block begun × StandsBy clock clock' writer writer' k keeper keeper' s
+
+-- if a message has begun, its head has so many bytes
+abbrev pub HasHeadOf : ℕ → Stepped → Type 0
+HasHeadOf len (stepped.Waits (Some b)) = b.len ≡ len
+HasHeadOf len _ = ⊤
+
+-- the faults that a step counted; none if it waits
+abbrev pub TellsStepped : {R W : Type 0} → Stepped → Counted R → Counted R → Counted W → Counted W → Type 0
+TellsStepped (stepped.Done e) reader reader' writer writer' = TellsStep e reader reader' writer writer'
+TellsStepped (stepped.Waits begun) reader reader' writer writer' = TellsStep None reader reader' writer writer'
+
+-- the step ended the session, which may have given up
+abbrev pub MayHaveGivenUp : {K : Type 0} → Ghosts K → K → K → Stepped → Type 0
+MayHaveGivenUp k old new (stepped.Done e) = IsSomeAnd e (MayGiveUp k old new)
+MayHaveGivenUp k old new (stepped.Waits begun) = ⊥
+
+-- where bytes may be read without end, it stays so, and a step is done
+abbrev pub NeverStandsBy : Backlog → Backlog → Stepped → Type 0
+NeverStandsBy old new (stepped.Done e) = IsFree old → IsFree new
+NeverStandsBy old new (stepped.Waits begun) = IsFree old → ⊥

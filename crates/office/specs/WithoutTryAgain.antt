@@ -6,7 +6,7 @@ use Rattle.sigtext.specs.declared.refusal.Refusal.TheVariants as rule
 use Rattle.boxes.specs.State.{State}
 use Rattle.wire.specs.Framing.{Next}
 use Rattle.wire.specs.Framing as frame
-use Rattle.office.specs.Readable.{IsReadable}
+use Rattle.sigtext.specs.Readable.{IsReadable}
 use Rattle.office.specs.Sessions.{HasBegunMessage, Session, Connection, Run, closing, most_messages}
 use Rattle.wire.specs.declared.session.SessionEnd.{SessionEnd}
 use Rattle.wire.specs.declared.session.SessionEnd.TheVariants.{Ended, Refused, ReadFault, WriteFault}

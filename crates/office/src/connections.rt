@@ -2,6 +2,7 @@
 pub mod crowding;
 mod handling;
 mod receiving;
+mod resuming;
 pub mod run;
 pub mod session;
 mod stepping;

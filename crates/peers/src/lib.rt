@@ -5,6 +5,8 @@ mod counting;
 #[cfg(test)]
 mod loopback;
 #[cfg(test)]
+mod staging;
+#[cfg(test)]
 mod wanting;
 
 pub use counting::{Counting, serve_counted};

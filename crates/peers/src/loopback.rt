@@ -1,8 +1,9 @@
 //! Peers over loopback. They send everything before they are served.
 use crate::counting::{Counting, serve_counted};
+use boxes::Keeper;
 use commands::{Outcome, serve};
 use mio::Poll;
-use office::FixedClock;
+use office::{FixedClock, Office};
 use sigv4::Moment;
 use sockets::{End, Limits, Listener, TcpEnd};
 use std::io::{ErrorKind, Read, Write};
@@ -18,6 +19,7 @@ fn limits(connections: u64, open: usize) -> Limits {
         connections,
         patience: Some(Duration::from_secs(1)),
         open,
+        room: 64 << 20,
     }
 }
 
@@ -28,12 +30,23 @@ fn served(
     connections: u64,
     open: usize,
 ) -> Result<Outcome, Fail> {
-    let moment = Moment::read(DATE).ok_or("no moment")?;
     let mut office = make_office(rt.alloc())?;
+    served_by(rt, &mut office, listener, connections, open)
+}
+
+// The same by any office.
+pub(crate) fn served_by<K: Keeper>(
+    rt: &HostRuntime,
+    office: &mut Office<K>,
+    listener: TcpListener,
+    connections: u64,
+    open: usize,
+) -> Result<Outcome, Fail> {
+    let moment = Moment::read(DATE).ok_or("no moment")?;
     let mut clock = FixedClock::new(moment);
     let poll = Poll::new(rt)?;
     let limits = limits(connections, open);
-    Ok(serve(rt, poll, &mut office, listener, limits, &mut clock).outcome?)
+    Ok(serve(rt, poll, office, listener, limits, &mut clock).outcome?)
 }
 
 // The same with a counting listener.

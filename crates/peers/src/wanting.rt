@@ -104,6 +104,7 @@ fn where_it_does_not_help_the_others_stay(rt: HostRuntime) -> Result<(), Fail> {
         connections: 9,
         patience: Some(Duration::from_secs(2)),
         open: 16,
+        room: 64 << 20,
     };
     let wanting = Wanting {
         inner,

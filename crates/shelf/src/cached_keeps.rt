@@ -115,6 +115,14 @@ impl<K: Keeper> Keeper for CachedKeeper<K> {
         or_forget(&mut self.cache, self.keeper.staged_equals(in_box, name))
     }
 
+    fn stage_take(&mut self) -> Vec<u8> {
+        self.keeper.stage_take()
+    }
+
+    fn stage_put(&mut self, bytes: Vec<u8>) {
+        self.keeper.stage_put(bytes);
+    }
+
     fn stage_drop(&mut self) -> Result<(), KeepFault> {
         or_forget(&mut self.cache, self.keeper.stage_drop())
     }

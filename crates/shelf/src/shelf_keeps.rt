@@ -13,6 +13,7 @@ use boxes::{
 };
 use std::alloc::Global;
 use std::collections::BTreeMap;
+use std::mem;
 
 impl Keeper for Shelf {
     ghost means = { Holds };
@@ -93,6 +94,14 @@ impl Keeper for Shelf {
 
     fn staged_equals(&mut self, in_box: &[u8], name: &[u8]) -> Result<bool, KeepFault> {
         self.has_staged(in_box, name)
+    }
+
+    fn stage_take(&mut self) -> Vec<u8> {
+        mem::replace(&mut self.staged, Vec::new(self.alloc))
+    }
+
+    fn stage_put(&mut self, bytes: Vec<u8>) {
+        self.staged = bytes;
     }
 
     fn stage_drop(&mut self) -> Result<(), KeepFault> {

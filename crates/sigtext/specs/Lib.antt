@@ -6,6 +6,7 @@ pub mod CanonicalQuery
 pub mod SignedHeaders
 pub mod CanonicalRequest
 pub mod Request
+pub mod Readable
 pub mod Refusals
 pub mod Rules
 pub mod Counts

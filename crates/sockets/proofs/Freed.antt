@@ -56,6 +56,7 @@ still_through given contents outcome a b sends on was = record {
   idle = λ is_open.
       let idle = was.idle (sym sends.end ∙ is_open) in
       record {
+        between = sends.underway ∙ idle.between;
         untaken = subst (λ s. ahead_of s ≡ []) (sym sends.standing) idle.untaken;
         unread = subst (λ r. ahead_in r.inner ≡ []) (sym sends.reader) idle.unread;
         unsent = nothing_left on.takes.0 (waits_out b.writer.inner) (sym idle.unsent ∙ on.takes.1);

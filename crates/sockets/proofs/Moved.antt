@@ -15,8 +15,8 @@ use Rattle.sockets.specs.Accepting.{Admits, IsUntouched, MayGo, lacks_answers}
 use Rattle.sockets.specs.Accepting as accepting
 use Rattle.sockets.specs.Listening.{Event, IsWant, accepted, closed, missed, opened, unready}
 use Rattle.sockets.specs.Moving.{HasPassed, Moves, Passes}
-use Rattle.sockets.specs.declared.gate.Entry.{Entry}
-use Rattle.sockets.specs.declared.gate.Entry.TheVariants as entry
+use Rattle.sockets.specs.declared.actions.Outcome.{Outcome}
+use Rattle.sockets.specs.declared.actions.Outcome.TheVariants as outcome
 use Rattle.sockets.specs.declared.gate.Gate.{Gate}
 
 plus_none : (n : ℕ) → n ≡ n + 0
@@ -152,8 +152,8 @@ module _ {L S E : Type 0} (told : L → List (Event S E) → Type 0) (are_ends :
       (omega (arith, to_come, ap (λ w. length (those_of w)) waits, ap (λ w. length (those_of w)) free)) most came gone unsent tells
 
   -- the ends of the waiting connection can't be made: it keeps waiting, or is turned away
-  pub puts_off : (g h : Gate L S) (told' : Entry) (stream : S) (back free : Option S) (e : Error) → g.guest ≡ Some stream → IfSome back (λ x. x ≡ stream)
-      → ((told' ≡ entry.Wanting) × (x : S) × (back ≡ Some x) × IsWant e × (h.guest ≡ Some x)) ⊎ ((told' ≡ entry.Away) × ((back ≡ None) ⊎ (IsWant e → ⊥)) × (h.guest ≡ free)) → free ≡ None
+  pub puts_off : (g h : Gate L S) (told' : Outcome) (stream : S) (back free : Option S) (e : Error) → g.guest ≡ Some stream → IfSome back (λ x. x ≡ stream)
+      → ((told' ≡ outcome.Wanting) × (x : S) × (back ≡ Some x) × IsWant e × (h.guest ≡ Some x)) ⊎ ((told' ≡ outcome.Away) × ((back ≡ None) ⊎ (IsWant e → ⊥)) × (h.guest ≡ free)) → free ≡ None
       → h.to_come ≡ g.to_come → h.most ≡ g.most → h.came ≡ g.came → h.gone ≡ g.gone → h.unsent ≡ g.unsent
       → ((log : List (Event S E)) → told g.listener log → told h.listener (log ++ unready back e ∷ [])) → Passes told are_ends g h [] []
   puts_off g h told' stream back free e waits is (inl x) none to_come most came gone unsent tells =

@@ -14,14 +14,14 @@ use Rattle.wire.specs.declared.outbox.Outbox.{Outbox}
 use Rattle.sockets.specs.Doing.{ReadsAsMuch}
 use Rattle.sockets.specs.Listening.{Event, IsWant, unready}
 use Rattle.sockets.specs.Telling.{Enters, Tells}
-use Rattle.sockets.specs.declared.gate.Entry.{Entry}
-use Rattle.sockets.specs.declared.gate.Entry.TheVariants as entry
+use Rattle.sockets.specs.declared.actions.Outcome.{Outcome}
+use Rattle.sockets.specs.declared.actions.Outcome.TheVariants as outcome
 use Rattle.sockets.specs.declared.gate.Gate.{Gate}
 use Rattle.sockets.proofs.Freed.{set_there}
 
 -- a connection that is handed back keeps waiting, and one that is not waits no more
-pub put_off_so : {L S E : Type 0} (told : L → List (Event S E) → Type 0) (g h : Gate L S) (says : Entry) (stream : S) (back free : Option S) (e : Error) (slots : List (Option (Seat (Gathered E) (Outbox E))))
-    → g.guest ≡ Some stream → IfSome back (λ x. x ≡ stream) → ((says ≡ entry.Wanting) × (x : S) × (back ≡ Some x) × IsWant e × (h.guest ≡ Some x)) ⊎ ((says ≡ entry.Away) × ((back ≡ None) ⊎ (IsWant e → ⊥)) × (h.guest ≡ free))
+pub put_off_so : {L S E : Type 0} (told : L → List (Event S E) → Type 0) (g h : Gate L S) (says : Outcome) (stream : S) (back free : Option S) (e : Error) (slots : List (Option (Seat (Gathered E) (Outbox E))))
+    → g.guest ≡ Some stream → IfSome back (λ x. x ≡ stream) → ((says ≡ outcome.Wanting) × (x : S) × (back ≡ Some x) × IsWant e × (h.guest ≡ Some x)) ⊎ ((says ≡ outcome.Away) × ((back ≡ None) ⊎ (IsWant e → ⊥)) × (h.guest ≡ free))
     → free ≡ None → h.to_come ≡ g.to_come → h.came ≡ g.came → h.gone ≡ g.gone → Tells told g.listener h.listener (unready back e ∷ []) → Enters told says g h slots slots
 put_off_so told g h says stream back free e slots waits is (inl x) none to_come came gone tells =
     let it : back ≡ g.guest = x.2 ∙ (ap Some (subst (λ o. IfSome o (λ y. y ≡ stream)) x.2 is) ∙ sym waits) in

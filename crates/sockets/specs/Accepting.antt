@@ -1,7 +1,8 @@
 -- Connections that a listener accepted: they came and went. The turns that they were given.
-use Rattle.std.specs.Prelude.{◌≡◌, ◌<◌, ◌+◌, ◌++◌, ◌∷◌, ◌⊎◌, ◌||◌, ℕ, Bool, List, [], is_some, None, Option, Some, length, true, false}
+use Rattle.std.specs.Prelude.{◌≡◌, ◌<◌, ◌+◌, ◌++◌, ◌∷◌, ◌⊎◌, ◌||◌, ℕ, Bool, List, [], is_some, None, Option, Some, length, true, false, IfSome}
 use Rattle.std.specs.List.{AllByRecursion}
 use Rattle.std.specs.declared.io.Error.{Error}
+use Rattle.wire.specs.Crowds.{slot_at}
 use Rattle.wire.specs.Feeds.{ahead_of}
 use Rattle.wire.specs.Gathering.{HasFailed, ahead_in}
 use Rattle.wire.specs.Outgoing.{NoneFailed, WriteFailed, waits_out}
@@ -13,8 +14,10 @@ use Rattle.wire.specs.declared.session.SessionEnd.{SessionEnd}
 use Rattle.wire.specs.declared.session.SessionEnd.TheVariants.{Ended, Truncated, Refused, Limit, ReadFault, WriteFault}
 use Rattle.sockets.specs.Listening.{Event, IsWant, accepted, closed, missed, opened, unready}
 
--- no bytes of the connection are ahead or waiting, and no read has failed
+-- the connection is between two messages: no message is under way, no bytes are ahead or waiting, and no read
+-- has failed
 pub record IsIdle {E : Type 0} (seat : Seat (Gathered E) (Outbox E)) : Type 0 where
+  pub between : seat.underway ≡ None
   pub untaken : ahead_of seat.standing ≡ []
   pub unread : ahead_in seat.reader.inner ≡ []
   pub unsent : waits_out seat.writer.inner ≡ []
@@ -28,6 +31,10 @@ pub record IsUntouched {E : Type 0} (seat : Seat (Gathered E) (Outbox E)) : Type
 -- everything written to the connection was sent, or a write failed
 abbrev pub IsSettled : {E : Type 0} → Seat (Gathered E) (Outbox E) → Type 0
 IsSettled seat = (waits_out seat.writer.inner ≡ []) ⊎ WriteFailed seat.writer.inner
+
+-- the same of the connection in slot p
+abbrev pub IsSettledAt : {E : Type 0} → List (Option (Seat (Gathered E) (Outbox E))) → ℕ → Type 0
+IsSettledAt slots p = IfSome (slot_at slots p) IsSettled
 
 -- The connection is through: it is idle if it is open, and if it ended by a failed read, its reader has a
 -- fault, either from a read or because it was made to fail.

@@ -1,25 +1,25 @@
 //! Accepting connections.
+use crate::actions::{Action, Outcome};
 use crate::book::Book;
-use crate::gate::{Call, Entry};
 use crate::held::Held;
 use crate::peer::{Peer, Phase};
 use crate::socket::Listener;
-use crate::stages::{Stage, Step, Task};
+use crate::stages::Stage;
 use std::time;
 
 impl<R: time::Clock, L: Listener> Book<'_, R, L> {
     /// The next step to take in a connection, if one may come: a waiting connection is let in, or the
     /// listener is asked. If no slot is free, the connection that has been idle longest is closed. `None` if
     /// no connection can come now.
-    pub(crate) fn next_to_come(&mut self) -> Option<Step> {
+    pub(crate) fn next_to_come(&mut self) -> Option<Action> {
         if self.door.has_guest() {
             if self.has_free_slot() {
-                return Some(Step::LetIn);
+                return Some(Action::LetIn);
             }
-            return Some(Step::Go(Some(self.make_way()?)));
+            return self.make_way();
         }
         if self.door.is_open() {
-            return Some(Step::Accept);
+            return Some(Action::Accept);
         }
         None
     }
@@ -39,27 +39,26 @@ impl<R: time::Clock, L: Listener> Book<'_, R, L> {
 
     // Closes the connection that has been idle longest. If none is idle, no more connections come in this
     // round.
-    fn make_way(&mut self) -> Option<Task> {
+    fn make_way(&mut self) -> Option<Action> {
         let way = self.way();
         if way.is_none() {
-            self.stage = Stage::Rooms;
+            self.stage = Stage::Cuts;
         }
         way
     }
 
     // The task that closes the connection that has been idle longest, if one is idle.
-    fn way(&self) -> Option<Task> {
+    fn way(&self) -> Option<Action> {
         let index = self.most_silent()?;
-        let deed = self.release(index)?;
-        Some(Task { index, deed })
+        self.release(index)
     }
 
     // Memory or descriptors are short: accepts none for a while, and closes an idle connection, unless
     // closing the last one did not help.
-    fn want(&mut self) -> Option<Task> {
+    fn want(&mut self) -> Option<Action> {
         self.door.pause(self.now);
         if self.door.is_relieved(self.now) {
-            self.stage = Stage::Rooms;
+            self.stage = Stage::Cuts;
             return None;
         }
         let way = self.make_way();
@@ -69,32 +68,39 @@ impl<R: time::Clock, L: Listener> Book<'_, R, L> {
         way
     }
 
-    /// The listener was asked. No connection is let in at once.
-    pub(crate) fn called(&mut self, call: Call) -> Option<Task> {
-        match call {
-            Call::Came => self.make_way(),
-            Call::Refused => None,
-            Call::Wanting => self.want(),
-            Call::None => {
-                self.door.rest();
-                self.stage = Stage::Rooms;
+    /// The listener was asked for a connection, or a connection was to be let in.
+    pub(crate) fn at_door(
+        &mut self,
+        slots: &[Option<Held<L::End>>],
+        outcome: Outcome,
+    ) -> Option<Action> {
+        match outcome {
+            Outcome::Came => {
+                self.door.welcome();
+                self.next_to_come()
+            }
+            Outcome::Refused => {
+                self.door.refuse();
                 None
             }
-        }
-    }
-
-    /// A connection was let in, or not.
-    pub(crate) fn entered(&mut self, slots: &[Option<Held<L::End>>], entry: Entry) -> Option<Task> {
-        match entry {
-            Entry::In(index) => self.opened(slots, index),
-            Entry::Away => None,
-            Entry::Wanting => self.want(),
+            Outcome::NoneCame => {
+                self.door.rest();
+                self.stage = Stage::Cuts;
+                None
+            }
+            Outcome::Entered { index } => self.opened(slots, index),
+            Outcome::Away => {
+                self.door.clear();
+                None
+            }
+            Outcome::Wanting => self.want(),
+            _ => None,
         }
     }
 
     // A connection came into this slot. Reads it at once, because only a connection with nothing to read
     // counts as idle.
-    fn opened(&mut self, slots: &[Option<Held<L::End>>], index: usize) -> Option<Task> {
+    fn opened(&mut self, slots: &[Option<Held<L::End>>], index: usize) -> Option<Action> {
         self.door.enter();
         self.taken = self.taken.saturating_add(1);
         if let Some(peer) = self.peers.get_mut(index) {
@@ -102,7 +108,6 @@ impl<R: time::Clock, L: Listener> Book<'_, R, L> {
             peer.phase = Phase::Silent;
             peer.is_ready = true;
         }
-        let deed = self.read(slots, index)?;
-        Some(Task { index, deed })
+        self.read(slots, index)
     }
 }

@@ -1,10 +1,11 @@
 //! What the loop stores besides the slots: the phase of each peer, the turns that are due, and what the
 //! sockets told.
-use crate::deeds::Deed;
+use crate::actions::Action;
 use crate::door::Door;
 use crate::held::{Held, seat_at};
 use crate::peer::{Peer, Phase};
-use crate::rooms::Rooms;
+use crate::preparing::Limits;
+use crate::rooms::{Rooms, Share};
 use crate::rounds::Rounds;
 use crate::socket::Listener;
 use crate::stages::Stage;
@@ -15,7 +16,7 @@ use std::io::ErrorKind;
 use std::marker::PhantomData;
 use std::time::{Duration, Instant};
 use std::{mem, time};
-use wire::Room;
+use wire::Spare;
 
 /// The token of the listener. Every other token is the index of a slot.
 pub(crate) const LISTENER: Token = Token(usize::MAX);
@@ -33,7 +34,7 @@ pub struct Book<'a, R, L: Listener> {
     pub(crate) events: Events,
     /// The events of the last poll.
     pub(crate) ready: Vec<Event>,
-    /// The buffer for reads.
+    /// The buffer for what is discarded.
     pub(crate) buf: Vec<u8>,
     pub(crate) peers: Vec<Peer>,
     /// How many slots hold a connection.
@@ -42,8 +43,8 @@ pub struct Book<'a, R, L: Listener> {
     pub(crate) rooms: Rooms,
     pub(crate) door: Door,
     pub(crate) stage: Stage,
-    /// The room for the next turn, if there is one.
-    pub(crate) room: Option<Room>,
+    /// What the next turn takes, as far as it is there.
+    pub(crate) spare: Spare,
     /// The slot that had the last turn, until it is processed.
     pub(crate) turned: Option<usize>,
     pub(crate) now: Instant,
@@ -53,6 +54,8 @@ pub struct Book<'a, R, L: Listener> {
     pub(crate) reads: usize,
     /// Whether a connection was left that can be read at once.
     pub(crate) is_behind: bool,
+    /// Whether a body waits for room.
+    pub(crate) is_waiting: bool,
     /// Whether more answers wait than before.
     pub(crate) is_laden: bool,
     // The listener of the connections in the slots.
@@ -86,16 +89,18 @@ impl Lists {
 pub(crate) struct Turns {
     rounds: Rounds,
     rooms: Rooms,
-    room: Room,
+    spare: Spare,
 }
 
 impl Turns {
-    /// For so many slots.
-    pub(crate) fn new(alloc: Global, slots: usize) -> Result<Turns, AllocError> {
+    /// For so many slots. Their bodies share this much room, in bytes.
+    pub(crate) fn new(alloc: Global, slots: usize, room: usize) -> Result<Turns, AllocError> {
+        let mut spare = Spare::none();
+        spare.fill(alloc)?;
         Ok(Turns {
             rounds: Rounds::with_capacity(alloc, slots)?,
-            rooms: Rooms::beside(alloc, slots)?,
-            room: Room::new(alloc)?,
+            rooms: Rooms::new(alloc, room, slots)?,
+            spare,
         })
     }
 }
@@ -105,7 +110,7 @@ impl<'a, R: time::Clock, L: Listener> Book<'a, R, L> {
     pub(crate) fn new(
         rt: &'a R,
         alloc: Global,
-        patience: Option<Duration>,
+        limits: Limits,
         now: Instant,
         poll: Poll,
         lists: Lists,
@@ -120,12 +125,12 @@ impl<'a, R: time::Clock, L: Listener> Book<'a, R, L> {
         let Turns {
             rounds,
             rooms,
-            room,
+            spare,
         } = turns;
         Book {
             rt,
             alloc,
-            patience,
+            patience: limits.patience,
             poll,
             events,
             ready,
@@ -134,14 +139,15 @@ impl<'a, R: time::Clock, L: Listener> Book<'a, R, L> {
             taken: 0,
             rounds,
             rooms,
-            door: Door::new(),
+            door: Door::new(limits.connections),
             stage: Stage::Turns,
-            room: Some(room),
+            spare,
             turned: None,
             now,
             looked: now,
             reads: 0,
             is_behind: false,
+            is_waiting: false,
             is_laden: false,
             of: PhantomData,
         }
@@ -167,29 +173,27 @@ impl<R: time::Clock, L: Listener> Book<'_, R, L> {
     }
 
     /// Makes a turn due.
-    pub(crate) fn make_due(&mut self, index: usize) -> Option<Deed> {
+    pub(crate) fn make_due(&mut self, index: usize) -> Option<Action> {
         if matches!(self.phase(index), Phase::Due) {
             return None;
         }
         match self.push(index) {
-            Ok(()) => {
-                self.enter(index, Phase::Due);
-                None
-            }
-            Err(_) => {
-                self.is_behind = true;
-                None
-            }
+            Ok(()) => self.enter(index, Phase::Due),
+            Err(_) => self.is_behind = true,
         }
+        None
     }
 
-    // Gives the slot a turn in the next round, for which there is memory. A connection that was just accepted
-    // has its first turn in this round, if there is memory for that.
+    // Gives the slot a turn in the next round, for which there is memory, or a later one if it ends a large body.
+    // A connection that was just accepted has its first turn in this round, if there is memory for that.
     fn push(&mut self, index: usize) -> Result<(), AllocError> {
-        let is_first = match self.peers.get_mut(index) {
-            Some(peer) => mem::take(&mut peer.is_new),
-            None => false,
+        let (is_first, is_long) = match self.peers.get_mut(index) {
+            Some(peer) => (mem::take(&mut peer.is_new), peer.ends_large_body()),
+            None => (false, false),
         };
+        if is_long {
+            return self.rounds.push_long(index);
+        }
         let is_now = is_first && matches!(self.stage, Stage::Accept(_));
         if is_now && self.rounds.push_now(index).is_ok() {
             return Ok(());
@@ -204,34 +208,33 @@ impl<R: time::Clock, L: Listener> Book<'_, R, L> {
         slots: &[Option<Held<L::End>>],
         index: usize,
         kind: ErrorKind,
-    ) -> Option<Deed> {
+    ) -> Option<Action> {
         match seat_at(slots, index) {
-            Some(seat) if seat.end().is_none() => Some(Deed::Fail(kind)),
+            Some(seat) if seat.end().is_none() => Some(Action::Fail { index, kind }),
             _ => self.release(index),
         }
     }
 
     /// Closes the connection, if there is one.
-    pub(crate) fn release(&self, index: usize) -> Option<Deed> {
+    pub(crate) fn release(&self, index: usize) -> Option<Action> {
         if matches!(self.phase(index), Phase::Free) {
             return None;
         }
-        Some(Deed::Free)
+        Some(Action::Free { index })
     }
 
-    /// The slot was freed. Its part of the shared room is returned.
+    /// The slot was freed. What its body took of the shared memory is returned.
     pub(crate) fn freed(&mut self, index: usize) {
-        self.give_room_back(index);
+        self.set_share(index, Share::NONE);
         self.enter(index, Phase::Free);
         self.taken = self.taken.saturating_sub(1);
         self.door.end_pause();
     }
 
-    /// Returns the peer's part of the shared room.
-    pub(crate) fn give_room_back(&mut self, index: usize) {
+    /// Sets what the peer's body takes of the shared memory.
+    pub(crate) fn set_share(&mut self, index: usize, share: Share) {
         if let Some(peer) = self.peers.get_mut(index) {
-            self.rooms.give_back(peer.room);
-            peer.room = 0;
+            self.rooms.set(peer, share);
         }
     }
 }

@@ -1,6 +1,6 @@
 //! The timeouts, and which connection makes way for a new one.
+use crate::actions::Action;
 use crate::book::Book;
-use crate::deeds::Deed;
 use crate::held::{Held, waiting_len};
 use crate::peer::Phase;
 use crate::socket::Listener;
@@ -8,7 +8,7 @@ use std::io::ErrorKind;
 use std::time;
 use std::time::{Duration, Instant};
 
-/// For how many milliseconds a large body may bring less than `BODY_STEP` bytes while another waits for room.
+/// For how many milliseconds no byte of a body may come while another body waits for room.
 const SHORT_MILLIS: u64 = 1000;
 
 /// How many bytes of answers may wait in total before a connection is cut off.
@@ -20,11 +20,11 @@ impl<R: time::Clock, L: Listener> Book<'_, R, L> {
         &mut self,
         slots: &[Option<Held<L::End>>],
         index: usize,
-    ) -> Option<Deed> {
+    ) -> Option<Action> {
         let Some(peer) = self.peers.get(index) else {
             return None;
         };
-        if !peer.is_over(self.patience, self.now) {
+        if !peer.is_late(self.patience, self.now) {
             return None;
         }
         match peer.phase {
@@ -46,20 +46,20 @@ impl<R: time::Clock, L: Listener> Book<'_, R, L> {
         Some(oldest?.index)
     }
 
-    /// The large body that has brought less than `BODY_STEP` bytes for the longest time, if that is too long
-    /// while another waits for room.
-    pub(crate) fn slowest_body(&self) -> Option<usize> {
+    /// The body with room of which nothing has come for the longest time, if that is too long while another waits
+    /// for room.
+    pub(crate) fn most_silent_body(&self) -> Option<usize> {
         let mut oldest: Option<Lasting> = None;
         'slots: for (index, peer) in self.peers.iter().enumerate() {
-            if matches!(peer.phase, Phase::Body { .. }) && peer.room > 0 {
-                oldest = Some(older(oldest, index, peer.since));
+            if matches!(peer.phase, Phase::Body { .. }) && peer.has_room {
+                oldest = Some(older(oldest, index, peer.heard));
             }
         }
-        let slowest = oldest?;
-        if self.now.duration_since(slowest.since) < Duration::from_millis(SHORT_MILLIS) {
+        let silent = oldest?;
+        if self.now.duration_since(silent.since) < Duration::from_millis(SHORT_MILLIS) {
             return None;
         }
-        Some(slowest.index)
+        Some(silent.index)
     }
 
     /// If more bytes of answers wait than allowed: the connection whose peer has accepted nothing for the

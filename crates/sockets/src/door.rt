@@ -1,5 +1,4 @@
 //! Whether the listener may be asked for connections now.
-use crate::gate::Coming;
 use std::time::{Duration, Instant};
 
 /// For how many milliseconds no connection is accepted after memory or descriptors were short, unless a
@@ -9,8 +8,10 @@ const PAUSE_MILLIS: u64 = 100;
 /// Whether the listener may be asked for connections, and whether a waiting connection may be let in.
 #[derive(Drop)]
 pub(crate) struct Door {
-    // Which connections may still come.
-    coming: Coming,
+    // An accepted connection waits to be let in.
+    guest: bool,
+    // How many connections are still to be accepted, including those that fail.
+    to_come: u64,
     // Whether connections may be there. An event comes once, and holds until an `accept` would wait.
     is_ready: bool,
     // Since when no connection is accepted because memory or descriptors are short.
@@ -20,22 +21,31 @@ pub(crate) struct Door {
 }
 
 impl Door {
-    /// A door at which connections may wait.
-    pub(crate) fn new() -> Door {
+    /// A door at which this many connections are to come.
+    pub(crate) fn new(connections: u64) -> Door {
         Door {
-            coming: Coming {
-                has_guest: false,
-                is_last: false,
-            },
+            guest: false,
+            to_come: connections,
             is_ready: true,
             paused: None,
             relieved: None,
         }
     }
 
-    /// Stores which connections may still come.
-    pub(crate) fn note(&mut self, coming: Coming) {
-        self.coming = coming;
+    /// A connection was accepted, and waits to be let in.
+    pub(crate) fn welcome(&mut self) {
+        self.to_come = self.to_come.saturating_sub(1);
+        self.guest = true;
+    }
+
+    /// A connection could not be accepted.
+    pub(crate) fn refuse(&mut self) {
+        self.to_come = self.to_come.saturating_sub(1);
+    }
+
+    /// No connection waits to be let in any more.
+    pub(crate) fn clear(&mut self) {
+        self.guest = false;
     }
 
     /// Notes that connections may be there.
@@ -50,7 +60,7 @@ impl Door {
 
     /// Whether no more connections are to come.
     pub(crate) fn is_shut(&self) -> bool {
-        self.coming.is_last && !self.coming.has_guest
+        self.to_come == 0 && !self.guest
     }
 
     /// Whether no connection may come now because memory or descriptors are short.
@@ -60,12 +70,12 @@ impl Door {
 
     /// Whether the listener can be asked for a connection at once.
     pub(crate) fn is_open(&self) -> bool {
-        !self.coming.is_last && self.is_ready && !self.coming.has_guest && self.paused.is_none()
+        self.to_come > 0 && self.is_ready && !self.guest && self.paused.is_none()
     }
 
     /// Whether an accepted connection waits and may be let in.
     pub(crate) fn has_guest(&self) -> bool {
-        self.coming.has_guest && self.paused.is_none()
+        self.guest && self.paused.is_none()
     }
 
     /// Stops accepting for a while, because memory or descriptors are short.
@@ -83,8 +93,9 @@ impl Door {
         lasts(self.relieved, now)
     }
 
-    /// Notes that a connection came in, so the shortage has ended.
+    /// Notes that the waiting connection came in, so a shortage has ended.
     pub(crate) fn enter(&mut self) {
+        self.guest = false;
         self.relieved = None;
     }
 

@@ -5,45 +5,13 @@ ghost use Rattle.wire.specs.Seats.{IsNew};
 ghost use Rattle.sockets.specs.Accepting.{MayGo};
 ghost use Rattle.sockets.specs.Listening.{IsWant};
 
+use crate::actions::Outcome;
 use crate::held::{Held, lacking, new_seat};
 use crate::socket::{Listener, Unready};
 use std::alloc::Global;
 use std::io;
 use std::io::{ErrorKind, Read, Write};
 use wire::{Gathered, Outbox, first_free, free_slot, open_slot};
-
-/// The result of asking for a connection.
-#[derive(Clone, Copy)]
-pub(crate) enum Call {
-    /// A connection was accepted and waits to be let in.
-    Came,
-    /// A connection could not be accepted.
-    Refused,
-    /// No connection can be accepted now, because memory or descriptors are short.
-    Wanting,
-    /// No connection is there, or one waits already, or no more are to come.
-    None,
-}
-
-/// The result of letting a connection in.
-#[derive(Clone, Copy)]
-pub(crate) enum Entry {
-    /// It came into the slot at this index.
-    In(usize),
-    /// It was turned away, or no connection waited.
-    Away,
-    /// It still waits, because memory, descriptors or slots are short.
-    Wanting,
-}
-
-/// Which connections may still come.
-#[derive(Clone, Copy)]
-pub(crate) struct Coming {
-    /// An accepted connection waits to be let in.
-    pub(crate) has_guest: bool,
-    /// No more connections are to be accepted.
-    pub(crate) is_last: bool,
-}
 
 /// The listener, an accepted connection that has no slot yet, and how many came and went.
 #[derive(Drop)]
@@ -98,61 +66,50 @@ impl<L: Listener> Gate<L, L::Stream> {
         (self.listener, self.to_come, waits)
     }
 
-    /// Which connections may still come.
-    pub(crate) fn coming(&self) -> Coming
-        ensures guest { result.has_guest ≡ is_some self.now.guest }
-        ensures last { result.is_last ≡ true ↔ (self.now.to_come ≡ 0) }
-    {
-        Coming {
-            has_guest: self.guest.is_some(),
-            is_last: self.to_come == 0,
-        }
-    }
-
     /// Asks the listener for a connection, if none waits and one is to come.
-    pub(crate) fn call(&mut self) -> Call
+    pub(crate) fn accept(&mut self) -> Outcome
         ensures passes { Passes L.told L.are_ends self.old self.new [] [] }
         ensures told { Calls L.told result self.old self.new }
     {
         if self.guest.is_some() || self.to_come == 0 {
-            return Call::None;
+            return Outcome::NoneCame;
         }
         match self.listener.accept() {
             Ok(Some(stream)) => {
                 self.to_come -= 1;
                 self.guest = Some(stream);
-                Call::Came
+                Outcome::Came
             }
-            Ok(None) => Call::None,
-            Err(error) if is_want(error) => Call::Wanting,
+            Ok(None) => Outcome::NoneCame,
+            Err(error) if is_want(error) => Outcome::Wanting,
             Err(_) => {
                 self.to_come -= 1;
-                Call::Refused
+                Outcome::Refused
             }
         }
     }
 
     /// Lets the waiting connection into a free slot. It keeps waiting if no slot is free, or memory or
     /// descriptors are short. It is turned away if its ends can't be made.
-    pub(crate) fn let_in(&mut self, slots: &mut [Option<Held<L::End>>], alloc: Global) -> Entry
+    pub(crate) fn let_in(&mut self, slots: &mut [Option<Held<L::End>>], alloc: Global) -> Outcome
         ensures moves { Moves L.told L.are_ends ⟦<Gathered<L::End> as Read>⟧.remaining
             ⟦<Outbox<L::End> as Write>⟧.contents self.old self.new slots.old slots.new }
         ensures told { Enters L.told result self.old self.new slots.old slots.new }
     {
         let Some(came) = self.came.checked_add(1) else {
-            return Entry::Wanting;
+            return Outcome::Wanting;
         };
         if !self.may_open() || first_free(slots).is_none() {
-            return Entry::Wanting;
+            return Outcome::Wanting;
         }
         let Some(stream) = self.guest.take() else {
-            return Entry::Away;
+            return Outcome::Away;
         };
         match self.listener.open(alloc, stream) {
             Ok((reader, writer)) => {
                 let index = seat_in(slots, new_seat(alloc, reader, writer));
                 self.came = came;
-                Entry::In(index)
+                Outcome::Entered { index }
             }
             Err(Unready { stream, error }) => self.put_off(stream, error),
         }
@@ -160,21 +117,21 @@ impl<L: Listener> Gate<L, L::Stream> {
 
     // The ends of the waiting connection can't be made, with this error. It keeps waiting if it still exists
     // and the shortage may end.
-    fn put_off(&mut self, stream: Option<L::Stream>, error: io::Error) -> Entry
-        ensures told { ((result ≡ Entry.Wanting) × (same : L.Stream) × (stream ≡ Some same) × IsWant error × (self.new.guest ≡ Some same))
-            ⊎ ((result ≡ Entry.Away) × ((stream ≡ None) ⊎ (IsWant error → ⊥)) × (self.new.guest ≡ self.old.guest)) }
+    fn put_off(&mut self, stream: Option<L::Stream>, error: io::Error) -> Outcome
+        ensures told { ((result ≡ Outcome.Wanting) × (same : L.Stream) × (stream ≡ Some same) × IsWant error × (self.new.guest ≡ Some same))
+            ⊎ ((result ≡ Outcome.Away) × ((stream ≡ None) ⊎ (IsWant error → ⊥)) × (self.new.guest ≡ self.old.guest)) }
         ensures others { (self.new.listener ≡ self.old.listener) × (self.new.to_come ≡ self.old.to_come)
             × (self.new.most ≡ self.old.most) × (self.new.came ≡ self.old.came) × (self.new.gone ≡ self.old.gone)
             × (self.new.unsent ≡ self.old.unsent) }
     {
         let Some(stream) = stream else {
-            return Entry::Away;
+            return Outcome::Away;
         };
         if !is_want(error) {
-            return Entry::Away;
+            return Outcome::Away;
         }
         self.guest = Some(stream);
-        Entry::Wanting
+        Outcome::Wanting
     }
 
     // Whether fewer connections are open than allowed.

@@ -4,8 +4,9 @@ ghost use Rattle.std.specs.List.{count_by};
 ghost use Rattle.wire.specs.Crowds.{slot_at};
 ghost use Rattle.wire.specs.Seats.{IsNew};
 ghost use Rattle.wire.specs.Gathering.{ahead_in};
-ghost use Rattle.sockets.specs.Accepting.{IsIdle, IsThrough, IsUntouched, is_write_fault, lacks_answers};
+ghost use Rattle.sockets.specs.Accepting.{IsIdle, IsSettled, IsThrough, IsUntouched, is_write_fault, lacks_answers};
 
+use crate::rooms::Share;
 use std::alloc::Global;
 use std::io::{Read, Write};
 use wire::{Gathered, Outbox, Seat, SessionEnd};
@@ -33,6 +34,14 @@ pub(crate) fn ahead_len<S: Read>(slots: &[Option<Held<S>>], index: usize) -> usi
     }
 }
 
+/// Whether nothing waits for the peer of the connection in the slot that could still be sent.
+pub(crate) fn is_settled_at<S: Read + Write>(slots: &[Option<Held<S>>], index: usize) -> bool {
+    match seat_at(slots, index) {
+        Some(seat) => is_settled(seat),
+        None => true,
+    }
+}
+
 /// The number of bytes that wait for the peer.
 pub(crate) fn waiting_len<S: Write>(slots: &[Option<Held<S>>], index: usize) -> usize {
     match seat_at(slots, index) {
@@ -41,13 +50,36 @@ pub(crate) fn waiting_len<S: Write>(slots: &[Option<Held<S>>], index: usize) -> 
     }
 }
 
-// Whether no bytes are ahead or waiting, and no read has failed.
+/// What the body of the connection in the slot takes of the shared memory.
+pub(crate) fn share_at<S: Read>(slots: &[Option<Held<S>>], index: usize) -> Share {
+    let Some(seat) = seat_at(slots, index) else {
+        return Share::NONE;
+    };
+    match (seat.kept(), seat.to_come()) {
+        (Some(kept), Some(rest)) => Share {
+            held: kept.len(),
+            rest,
+        },
+        _ => Share::NONE,
+    }
+}
+
+/// Whether everything written to the connection was sent, or a write failed.
+pub(crate) fn is_settled<S: Read + Write>(seat: &Held<S>) -> bool
+    ensures { IsTrue result → IsSettled seat.now }
+{
+    let writer = &seat.writer.inner;
+    writer.has_failed() || writer.waiting().is_empty()
+}
+
+// Whether the connection is between two messages: none is under way, no bytes are ahead or waiting, and no read
+// has failed.
 fn is_idle<S: Read + Write>(seat: &Held<S>) -> bool
     ensures { IsTrue result ↔ IsIdle seat.now }
 {
     let reader = &seat.reader.inner;
     let is_read = seat.ahead().is_empty() && reader.ahead().is_empty() && !reader.has_failed();
-    is_read && seat.writer.inner.waiting().is_empty()
+    seat.underway.is_none() && is_read && seat.writer.inner.waiting().is_empty()
 }
 
 /// Whether the connection is through: it is idle or has ended and, if it ended by a failed read, its reader

@@ -1,8 +1,8 @@
 //! Leaving a connection. If a socket is closed while unread bytes are there, the connection is reset and the
 //! peer may lose the last answer. So the peer is told that no more comes, and what it still sends is read for
 //! a while.
+use crate::actions::Action;
 use crate::book::Book;
-use crate::deeds::Deed;
 use crate::held::{Held, seat_at};
 use crate::peer::Phase;
 use crate::socket::{End, Listener};
@@ -17,7 +17,7 @@ const LAST_READS: usize = 64;
 
 impl<R: time::Clock, L: Listener> Book<'_, R, L> {
     /// Starts to leave a connection whose session has ended and for which no bytes wait.
-    pub(crate) fn leave(&mut self, slots: &[Option<Held<L::End>>], index: usize) -> Option<Deed> {
+    pub(crate) fn leave(&mut self, slots: &[Option<Held<L::End>>], index: usize) -> Option<Action> {
         let stream = &seat_at(slots, index)?.reader.inner.inner;
         if stream.end_writes().is_err() {
             return self.release(index);
@@ -32,7 +32,7 @@ impl<R: time::Clock, L: Listener> Book<'_, R, L> {
         &mut self,
         slots: &[Option<Held<L::End>>],
         index: usize,
-    ) -> Option<Deed> {
+    ) -> Option<Action> {
         'reads: for _ in 0..LAST_READS {
             match self.read_last(slots, index) {
                 Ok(n) if n > 0 && self.count_last(index, n) => {}

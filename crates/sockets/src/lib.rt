@@ -3,9 +3,10 @@
 #![tactic(auto)]
 
 mod accepting;
+mod acting;
+mod actions;
 mod book;
 mod bounds;
-mod deeds;
 mod door;
 mod gate;
 mod held;

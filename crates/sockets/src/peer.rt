@@ -1,11 +1,16 @@
 //! What is known of a peer between two turns.
+use crate::rooms::Share;
 use std::time::{Duration, Instant};
 
-/// For how many seconds a body may bring less than `BODY_STEP` bytes.
+/// For how many seconds the next bytes of a body may fail to make its turn due.
 const BODY_SECONDS: u64 = 10;
 
-/// The fewest bytes that a body brings in that time, if that many are to come.
+/// How many bytes of a body make its turn due, if that many are to come. A peer sends them within
+/// `BODY_SECONDS`.
 pub(crate) const BODY_STEP: usize = 65_536;
+
+/// The least bytes that are kept of a large body: the turn that ends it takes long.
+const LARGE_BODY: usize = 262_144;
 
 /// For how many seconds a connection is kept after its peer was told that no more comes.
 const LAST_SECONDS: u64 = 1;
@@ -19,19 +24,14 @@ pub(crate) enum Phase {
     Silent,
     /// Part of a head is ahead.
     Head,
-    /// A head is ahead, and the message waits for room. Nothing is read.
-    Waits {
-        /// The length of the message in bytes.
-        len: usize,
-    },
-    /// A head is ahead, and its body is being read.
+    /// A body is being read.
     Body {
-        /// The length of the message in bytes.
-        len: usize,
-        /// How many of the bytes were ahead when the time began to count.
-        mark: usize,
+        /// How many bytes are ahead when its turn is due.
+        goal: usize,
     },
-    /// A turn is due: a whole message is ahead, or the reader ended or failed.
+    /// A body waits for room. Nothing is read.
+    Waits,
+    /// A turn is due: enough bytes are ahead, or the reader ended or failed.
     Due,
     /// An answer waits for the peer to accept it.
     Answer {
@@ -49,7 +49,7 @@ impl Phase {
     /// The timeout of the phase, if it has one.
     pub(crate) fn bound(self, patience: Option<Duration>) -> Option<Duration> {
         match self {
-            Phase::Free | Phase::Waits { .. } | Phase::Due => None,
+            Phase::Free | Phase::Waits | Phase::Due => None,
             Phase::Silent | Phase::Head | Phase::Answer { .. } => patience,
             Phase::Body { .. } => patience.map(|_| Duration::from_secs(BODY_SECONDS)),
             Phase::Leaving { .. } => Some(Duration::from_secs(LAST_SECONDS)),
@@ -71,12 +71,18 @@ pub(crate) struct Peer {
     /// Whether the peer sends no more, or has failed. What it sent is followed by an end, and no further
     /// event tells that end.
     pub(crate) is_closing: bool,
+    /// Whether a read found the end, or failed.
+    pub(crate) is_over: bool,
     /// Whether its socket is registered with the poll.
     pub(crate) is_watched: bool,
     /// Whether no turn of it was due yet.
     pub(crate) is_new: bool,
-    /// Its part of the shared room, in bytes.
-    pub(crate) room: usize,
+    /// What its body takes of the memory that bodies share.
+    pub(crate) share: Share,
+    /// Its number: bodies are numbered as they begin.
+    pub(crate) number: u64,
+    /// Whether its body goes on although not all bodies fit.
+    pub(crate) has_room: bool,
 }
 
 impl Peer {
@@ -88,10 +94,18 @@ impl Peer {
             heard: now,
             is_ready: false,
             is_closing: false,
+            is_over: false,
             is_watched: false,
             is_new: true,
-            room: 0,
+            share: Share::NONE,
+            number: 0,
+            has_room: false,
         }
+    }
+
+    /// Whether its next turn ends a large body that is kept.
+    pub(crate) fn ends_large_body(&self) -> bool {
+        self.share.held >= LARGE_BODY && self.share.rest <= BODY_STEP
     }
 
     /// Notes an event of its socket: whether the peer sends no more, and whether bytes may be there.
@@ -101,7 +115,7 @@ impl Peer {
     }
 
     /// Whether the phase has lasted too long, or no byte of a body came within the timeout.
-    pub(crate) fn is_over(&self, patience: Option<Duration>, now: Instant) -> bool {
+    pub(crate) fn is_late(&self, patience: Option<Duration>, now: Instant) -> bool {
         let is_body = matches!(self.phase, Phase::Body { .. });
         has_passed(self.phase.bound(patience), self.since, now)
             || is_body && has_passed(patience, self.heard, now)

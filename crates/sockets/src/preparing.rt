@@ -20,6 +20,9 @@ pub struct Limits {
     pub patience: Option<Duration>,
     /// How many connections may be open at a time, at least 1. Each takes a descriptor.
     pub open: usize,
+    /// How many bytes of bodies may be kept while the rest of them comes. One body is kept even if it is
+    /// larger.
+    pub room: usize,
 }
 
 /// The state of the loop, and free slots.
@@ -39,10 +42,10 @@ pub fn prepare<'a, L: Listener, R: time::Clock>(
 {
     watch_listener(&poll, listener)?;
     let now = Instant::now(rt)?;
-    let turns = Turns::new(alloc, limits.open)?;
+    let turns = Turns::new(alloc, limits.open, limits.room)?;
     let lists = Lists::new(alloc, limits.open, now)?;
     let slots = free_slots(alloc, limits.open)?;
-    let book = Book::new(rt, alloc, limits.patience, now, poll, lists, turns);
+    let book = Book::new(rt, alloc, limits, now, poll, lists, turns);
     Ok((book, slots))
 }
 

@@ -1,122 +1,148 @@
-//! The memory that large messages share while they are read.
+//! The memory that the bodies of uploads share while they come.
+use crate::peer::Peer;
 use std::alloc::{AllocError, Global};
-use std::time::{Duration, Instant};
 
-/// The most bytes that may be ahead on all connections together.
-const MOST_AHEAD: usize = 67_108_864;
-
-/// The bytes that each connection may have ahead without asking. A message of at most this size never waits
-/// for room.
-pub(crate) const OWN_ROOM: usize = 16_384;
-
-/// How many seconds a message may wait while only shorter messages get room.
-const SHORTER_SECONDS: u64 = 5;
-
-/// A slot that waits for room.
+/// What a body takes of the shared memory.
 #[derive(Clone, Copy)]
-struct Waiting {
-    index: usize,
-    /// The length of its message in bytes.
-    len: usize,
-    since: Instant,
+pub(crate) struct Share {
+    /// How many of its bytes are kept.
+    pub(crate) held: usize,
+    /// How many are still to come.
+    pub(crate) rest: usize,
 }
 
-/// Room for whole messages. A connection gets room before it reads the body, and keeps it until the message
-/// is served. So it never waits for more, and a waiting connection holds no room. The shortest message goes
-/// first, so that peers that announce much and send little hold up no one. But every second time the one that
-/// has waited longest goes first, if it has waited for five seconds. If no connection has room, the next one
-/// gets it, however much it asks for.
+impl Share {
+    /// Nothing: no body is kept.
+    pub(crate) const NONE: Share = Share { held: 0, rest: 0 };
+
+    /// Whether no body is kept.
+    pub(crate) fn is_none(self) -> bool {
+        self.held == 0 && self.rest == 0
+    }
+}
+
+// A body that has not come whole.
+#[derive(Clone, Copy)]
+struct Coming {
+    // Its slot.
+    index: usize,
+    // How many bytes are still to come.
+    rest: usize,
+    // Its number: bodies are numbered as they begin.
+    number: u64,
+}
+
+/// The memory for bodies that are kept as they come. While all of them fit into the bound, all go on. Otherwise
+/// the one that began first goes on, and then those with the least to come: as many as fit beside what is held,
+/// and at least one. The others are not read until there is room.
 #[derive(Drop)]
 pub(crate) struct Rooms {
+    // The bound, in bytes.
     most: usize,
-    given: usize,
-    // The slots that wait, oldest first.
-    waiting: Vec<Waiting>,
-    // Whether the last slot got its room because of its age.
-    was_old: bool,
+    // How many bytes of bodies are kept.
+    held: usize,
+    // How many bytes of these bodies are still to come.
+    rest: usize,
+    // How many bodies have begun.
+    begun: u64,
+    // The bodies that have not come whole: the one that began first, then those with the least to come.
+    coming: Vec<Coming>,
 }
 
 impl Rooms {
-    /// The room that is left beside the own room of this many connections.
-    pub(crate) fn beside(alloc: Global, connections: usize) -> Result<Rooms, AllocError> {
+    /// Room for this many bytes, for the bodies of this many connections.
+    pub(crate) fn new(alloc: Global, most: usize, connections: usize) -> Result<Rooms, AllocError> {
         Ok(Rooms {
-            most: MOST_AHEAD.saturating_sub(connections.saturating_mul(OWN_ROOM)),
-            given: 0,
-            waiting: Vec::with_capacity(alloc, connections)?,
-            was_old: false,
+            most,
+            held: 0,
+            rest: 0,
+            begun: 0,
+            coming: Vec::with_capacity(alloc, connections)?,
         })
     }
 
-    // Whether this much can be given.
-    fn has(&self, len: usize) -> bool {
-        self.given == 0 || self.given.saturating_add(len) <= self.most
-    }
-
-    /// Gives this much room, if it is available and no slot waits. Returns whether it did.
-    pub(crate) fn take(&mut self, len: usize) -> bool {
-        if !self.waiting.is_empty() || !self.has(len) {
-            return false;
+    /// Sets the share of a connection. A body that begins gets the next number, and one that ended has no room.
+    pub(crate) fn set(&mut self, peer: &mut Peer, share: Share) {
+        let old = peer.share;
+        self.held = self
+            .held
+            .saturating_sub(old.held)
+            .saturating_add(share.held);
+        self.rest = self
+            .rest
+            .saturating_sub(old.rest)
+            .saturating_add(share.rest);
+        if old.is_none() {
+            self.begun = self.begun.saturating_add(1);
+            peer.number = self.begun;
         }
-        self.given = self.given.saturating_add(len);
-        true
-    }
-
-    /// Puts the slot into the queue. The error means that memory was refused.
-    pub(crate) fn wait(
-        &mut self,
-        index: usize,
-        len: usize,
-        since: Instant,
-    ) -> Result<(), AllocError> {
-        self.waiting.push(Waiting { index, len, since })?;
-        Ok(())
-    }
-
-    /// Gives room to the next slot in the queue, if there is enough. Returns the slot and the size of its
-    /// room.
-    pub(crate) fn serve(&mut self, now: Instant) -> Option<(usize, usize)> {
-        let is_old = self.is_old(now);
-        let at = if is_old { 0 } else { self.shortest()? };
-        let Waiting { index, len, .. } = *self.waiting.get(at)?;
-        if !self.has(len) {
-            return None;
+        if share.is_none() {
+            peer.has_room = false;
         }
-        self.waiting.remove(at);
-        self.was_old = is_old;
-        self.given = self.given.saturating_add(len);
-        Some((index, len))
+        peer.share = share;
     }
 
-    // Whether the oldest slot goes next because of its age.
-    fn is_old(&self, now: Instant) -> bool {
-        match self.waiting.first() {
-            Some(first) if !self.was_old => {
-                now.duration_since(first.since) >= Duration::from_secs(SHORTER_SECONDS)
-            }
-            _ => false,
-        }
-    }
-
-    // The place of the shortest message in the queue, the first of equal ones.
-    fn shortest(&self) -> Option<usize> {
-        let mut least = self.waiting.first()?.len;
-        let mut found = 0;
-        'waiting: for (at, one) in self.waiting.iter().enumerate() {
-            if one.len < least {
-                least = one.len;
-                found = at;
-            }
-        }
-        Some(found)
-    }
-
-    /// Whether a slot waits for room.
+    /// Whether not all bodies fit.
     pub(crate) fn is_short(&self) -> bool {
-        !self.waiting.is_empty()
+        self.held.saturating_add(self.rest) > self.most
     }
 
-    /// Returns this much room.
-    pub(crate) fn give_back(&mut self, len: usize) {
-        self.given = self.given.saturating_sub(len);
+    /// Chooses the bodies that go on.
+    pub(crate) fn choose(&mut self, peers: &mut [Peer]) {
+        self.list(peers);
+        let first = self.first_begun();
+        self.coming
+            .sort_unstable_by_key(|one| if one.number == first { 0 } else { one.rest });
+        'bodies: for at in 0..self.fitting() {
+            self.admit(peers, at);
+        }
+    }
+
+    // Lists the bodies that have not come whole. None of them has room yet.
+    fn list(&mut self, peers: &mut [Peer]) {
+        self.coming.clear();
+        'peers: for index in 0..peers.len() {
+            peers[index].has_room = false;
+            let Peer { share, number, .. } = peers[index];
+            if share.rest > 0 {
+                let rest = share.rest;
+                let _ = self.coming.push(Coming {
+                    index,
+                    rest,
+                    number,
+                });
+            }
+        }
+    }
+
+    // The number of the listed body that began first.
+    fn first_begun(&self) -> u64 {
+        let mut first = u64::MAX;
+        'bodies: for one in self.coming.iter() {
+            first = first.min(one.number);
+        }
+        first
+    }
+
+    // How many of the listed bodies fit, or 1 if the first does not.
+    fn fitting(&self) -> usize {
+        let mut total = self.held;
+        'bodies: for (at, one) in self.coming.iter().enumerate() {
+            total = total.saturating_add(one.rest);
+            if at > 0 && total > self.most {
+                return at;
+            }
+        }
+        self.coming.len()
+    }
+
+    // Gives room to the listed body at this place.
+    fn admit(&self, peers: &mut [Peer], at: usize) {
+        let Some(one) = self.coming.get(at) else {
+            return;
+        };
+        if let Some(peer) = peers.get_mut(one.index) {
+            peer.has_room = true;
+        }
     }
 }

@@ -1,4 +1,4 @@
-//! Turns that are due. A connection has at most one in each round.
+//! Turns that are due. A connection has at most one in each round, and a round at most one that takes long.
 use std::alloc::{AllocError, Global};
 use std::mem;
 
@@ -11,6 +11,8 @@ pub(crate) struct Rounds {
     at: usize,
     // The slots of the next round.
     later: Vec<usize>,
+    // The slots whose turn takes long, oldest first. Each round has one of them, last.
+    long: Vec<usize>,
 }
 
 impl Rounds {
@@ -20,12 +22,19 @@ impl Rounds {
             now: Vec::with_capacity(alloc, most)?,
             at: 0,
             later: Vec::with_capacity(alloc, most)?,
+            long: Vec::with_capacity(alloc, most)?,
         })
     }
 
     /// Schedules a turn of the slot in the next round. The error means that memory was refused.
     pub(crate) fn push(&mut self, index: usize) -> Result<(), AllocError> {
         self.later.push(index)?;
+        Ok(())
+    }
+
+    /// Schedules a turn of the slot that takes long. The error means that memory was refused.
+    pub(crate) fn push_long(&mut self, index: usize) -> Result<(), AllocError> {
+        self.long.push(index)?;
         Ok(())
     }
 
@@ -44,7 +53,7 @@ impl Rounds {
 
     /// Whether the next round is empty.
     pub(crate) fn is_idle(&self) -> bool {
-        self.later.is_empty()
+        self.later.is_empty() && self.long.is_empty()
     }
 
     /// Begins the next round.
@@ -52,5 +61,8 @@ impl Rounds {
         self.now.clear();
         self.at = 0;
         mem::swap(&mut self.now, &mut self.later);
+        if !self.long.is_empty() && self.now.push(self.long[0]).is_ok() {
+            self.long.remove(0);
+        }
     }
 }

@@ -1,7 +1,7 @@
 //! Answers that wait until their peers accept them.
+use crate::actions::Action;
 use crate::book::Book;
-use crate::deeds::Deed;
-use crate::held::{Held, ahead_len, seat_at, waiting_len};
+use crate::held::{Held, seat_at, share_at, waiting_len};
 use crate::peer::Phase;
 use crate::socket::{End, Listener};
 use mio::unix::SourceFd;
@@ -9,30 +9,26 @@ use mio::{Interest, Poll, Token};
 use std::io::ErrorKind;
 use std::os::fd::RawFd;
 use std::{mem, time};
-use wire::{Room, Sending, SessionEnd};
+use wire::{Buffer, Sending, SessionEnd};
 
 impl<R: time::Clock, L: Listener> Book<'_, R, L> {
-    /// The feed returned this room, if it had one. After a turn the waiting bytes are sent.
+    /// The feed returned this buffer, if it had one of its own. After a turn the waiting bytes are sent.
     pub(crate) fn settled(
         &mut self,
         slots: &[Option<Held<L::End>>],
         index: usize,
-        room: Option<Room>,
-    ) -> Option<Deed> {
-        if let Some(room) = room {
-            self.room = Some(room);
-        }
+        buffer: Option<Buffer>,
+    ) -> Option<Action> {
+        self.spare.take_back(buffer);
         let Phase::Due = self.phase(index) else {
             return self.listen_to(slots, index);
         };
-        if ahead_len(slots, index) == 0 {
-            self.give_room_back(index);
-        }
+        self.set_share(index, share_at(slots, index));
         self.enter(index, Phase::Silent);
         if waiting_len(slots, index) == 0 {
             return self.go_on(slots, index);
         }
-        Some(Deed::Send)
+        Some(Action::Send { index })
     }
 
     /// A send had this result. Once all bytes are sent, the connection goes on.
@@ -41,7 +37,7 @@ impl<R: time::Clock, L: Listener> Book<'_, R, L> {
         slots: &[Option<Held<L::End>>],
         index: usize,
         sending: Sending,
-    ) -> Option<Deed> {
+    ) -> Option<Action> {
         match sending {
             Sending::Sent => self.go_on(slots, index),
             Sending::Waits => self.hold(slots, index),
@@ -50,7 +46,7 @@ impl<R: time::Clock, L: Listener> Book<'_, R, L> {
     }
 
     // An answer waits. More of it is sent when the peer has accepted some.
-    fn hold(&mut self, slots: &[Option<Held<L::End>>], index: usize) -> Option<Deed> {
+    fn hold(&mut self, slots: &[Option<Held<L::End>>], index: usize) -> Option<Action> {
         let waiting = waiting_len(slots, index);
         match self.phase(index) {
             Phase::Answer { mark } if waiting >= mark => return None,
@@ -69,7 +65,7 @@ impl<R: time::Clock, L: Listener> Book<'_, R, L> {
     }
 
     // No answer waits any more: reads the next message, or leaves the connection.
-    fn go_on(&mut self, slots: &[Option<Held<L::End>>], index: usize) -> Option<Deed> {
+    fn go_on(&mut self, slots: &[Option<Held<L::End>>], index: usize) -> Option<Action> {
         if matches!(self.phase(index), Phase::Answer { .. }) {
             if !self.watch(slots, index, false) {
                 return self.give_up(slots, index, ErrorKind::Other);
@@ -88,7 +84,7 @@ impl<R: time::Clock, L: Listener> Book<'_, R, L> {
         &mut self,
         slots: &[Option<Held<L::End>>],
         index: usize,
-    ) -> Option<Deed> {
+    ) -> Option<Action> {
         let Some(peer) = self.peers.get(index) else {
             return None;
         };
@@ -109,10 +105,10 @@ impl<R: time::Clock, L: Listener> Book<'_, R, L> {
     }
 
     /// Cuts off a connection whose peer accepts no answer. Its writes fail from now on.
-    pub(crate) fn cut(&mut self, slots: &[Option<Held<L::End>>], index: usize) -> Option<Deed> {
+    pub(crate) fn cut(&mut self, slots: &[Option<Held<L::End>>], index: usize) -> Option<Action> {
         let stream = &seat_at(slots, index)?.reader.inner.inner;
         let _ = stream.end_writes();
-        Some(Deed::Send)
+        Some(Action::Send { index })
     }
 }
 

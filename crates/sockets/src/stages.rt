@@ -1,9 +1,8 @@
 //! The loop, step by step. A round has these stages: turns; events of the sockets; reads that were left;
 //! timeouts; new connections; connections that wait for room.
+use crate::actions::{Action, Outcome};
 use crate::book::{Book, LISTENER};
-use crate::deeds::{Deed, Report};
-use crate::gate::Coming;
-use crate::held::{Held, seat_at};
+use crate::held::{Held, ahead_len, is_settled_at, seat_at};
 use crate::peer::Phase;
 use crate::socket::Listener;
 use mio::Token;
@@ -11,7 +10,7 @@ use mio::event::Event;
 use std::io::ErrorKind;
 use std::time;
 use std::time::{Duration, Instant};
-use wire::{Due, Room};
+use wire::{Due, Spare};
 
 /// How many connections are accepted per round.
 const MOST_ACCEPTS: usize = 64;
@@ -35,54 +34,18 @@ pub(crate) enum Stage {
     Look(usize),
     /// Accepts connections, at most this many more.
     Accept(usize),
-    /// Gives room to connections that wait for it.
-    Rooms,
-}
-
-/// An action on the connection in a slot.
-#[derive(Clone, Copy)]
-pub(crate) struct Task {
-    pub(crate) index: usize,
-    pub(crate) deed: Deed,
-}
-
-impl Task {
-    /// Closes the connection.
-    pub(crate) fn go(index: usize) -> Task {
-        let deed = Deed::Free;
-        Task { index, deed }
-    }
-}
-
-/// The next step.
-#[derive(Drop)]
-pub(crate) enum Step {
-    /// Does this task, if there is one.
-    Go(Option<Task>),
-    /// Asks the listener for a connection.
-    Accept,
-    /// Lets the waiting connection into a slot.
-    LetIn,
-    /// A turn is due.
-    Turn(Due),
-    /// All connections have come and gone.
-    Over,
+    /// Cuts off connections in favour of others.
+    Cuts,
+    /// Reads bodies that waited for room, from this slot on.
+    Rooms(usize),
 }
 
 impl<R: time::Clock, L: Listener> Book<'_, R, L> {
-    /// The last turn left this room. Returns the task that follows the turn, if there was one.
-    pub(crate) fn behind_turn(&mut self, spare: Option<Room>) -> Option<Task> {
-        if let Some(room) = spare {
-            self.room = Some(room);
+    /// The next action after this outcome.
+    pub(crate) fn next(&mut self, slots: &[Option<Held<L::End>>], outcome: Outcome) -> Action {
+        if let Some(action) = self.follow(slots, outcome) {
+            return action;
         }
-        let index = self.turned.take()?;
-        let deed = Deed::Settle;
-        Some(Task { index, deed })
-    }
-
-    /// The next step if no task is left. `coming` tells which connections may still come.
-    pub(crate) fn step(&mut self, slots: &[Option<Held<L::End>>], coming: Coming) -> Step {
-        self.door.note(coming);
         self.reads = MOST_READS;
         match self.stage {
             Stage::Turns => self.step_turns(slots),
@@ -90,68 +53,106 @@ impl<R: time::Clock, L: Listener> Book<'_, R, L> {
             Stage::Behind(at) => self.step_behind(slots, at),
             Stage::Look(at) => self.step_look(slots, at),
             Stage::Accept(left) => self.step_accept(slots, left),
-            Stage::Rooms => self.step_rooms(slots),
+            Stage::Cuts => self.step_cuts(slots),
+            Stage::Rooms(at) => self.step_rooms(slots, at),
         }
     }
 
+    // What the outcome makes necessary.
+    fn follow(&mut self, slots: &[Option<Held<L::End>>], outcome: Outcome) -> Option<Action> {
+        match outcome {
+            Outcome::Passed => None,
+            Outcome::Stayed { index } => self.look_again(slots, index),
+            Outcome::Gathered {
+                index,
+                gathering,
+                is_full,
+            } => self.gathered(slots, index, gathering, is_full),
+            Outcome::Settled { index, buffer } => self.settled(slots, index, buffer),
+            Outcome::Failing { index } => self.end(index),
+            Outcome::Sent { index, sending } => self.sent(slots, index, sending),
+            Outcome::Freed { index } => {
+                self.freed(index);
+                None
+            }
+            Outcome::Turned(spare) => self.turned(spare),
+            outcome => self.at_door(slots, outcome),
+        }
+    }
+
+    // The last turn, if there was one, left this of what it was given.
+    fn turned(&mut self, spare: Spare) -> Option<Action> {
+        self.spare.take_over(spare);
+        let index = self.turned.take()?;
+        Some(Action::Settle { index })
+    }
+
     // The next turn of the round. After the last turn, polls the sockets.
-    fn step_turns(&mut self, slots: &[Option<Held<L::End>>]) -> Step {
+    fn step_turns(&mut self, slots: &[Option<Held<L::End>>]) -> Action {
         if let Some(index) = self.rounds.pop() {
-            return self.turn(index);
+            return self.turn(slots, index);
         }
         if self.taken == 0 && self.door.is_shut() {
-            return Step::Over;
+            return Action::Over;
         }
         self.wait();
         self.step_events(slots, 0)
     }
 
-    // The turn of a slot, if it is still due.
-    fn turn(&mut self, index: usize) -> Step {
+    // The turn of a slot, if it is still due. What waits for its peer is sent before.
+    fn turn(&mut self, slots: &[Option<Held<L::End>>], index: usize) -> Action {
         let Phase::Due = self.phase(index) else {
-            return Step::Go(None);
+            return Action::Pass;
         };
-        let Some(room) = self.take_room() else {
-            return self.put_off(index);
-        };
-        self.turned = Some(index);
-        Step::Turn(Due { index, room })
-    }
-
-    // Moves the turn to a later round, because there is no memory for its room now.
-    fn put_off(&mut self, index: usize) -> Step {
-        self.enter(index, Phase::Silent);
-        self.make_due(index);
-        Step::Go(None)
-    }
-
-    // The room for a turn, if there is memory.
-    fn take_room(&mut self) -> Option<Room> {
-        match self.room.take() {
-            Some(room) => Some(room),
-            None => Room::new(self.alloc).ok(),
+        if !is_settled_at(slots, index) {
+            self.enter(index, Phase::Silent);
+            return Action::Send { index };
+        }
+        match self.due(slots, index) {
+            Some(due) => {
+                self.turned = Some(index);
+                Action::Turn(due)
+            }
+            None => self.put_off(index),
         }
     }
 
-    // Does this to the connection, if there is something to do.
-    fn go(&self, index: usize, deed: Option<Deed>) -> Step {
-        Step::Go(deed.map(|deed| Task { index, deed }))
+    // A turn of the slot, if there is memory for it. It reads what is ahead. If the reader has ended or failed,
+    // it reads that, too.
+    fn due(&mut self, slots: &[Option<Held<L::End>>], index: usize) -> Option<Due> {
+        self.spare.fill(self.alloc).ok()?;
+        let most = match self.peers.get(index) {
+            Some(peer) if peer.is_over => None,
+            _ => Some(ahead_len(slots, index)),
+        };
+        Some(Due {
+            index,
+            buffer: self.spare.buffer.take()?,
+            text: self.spare.text.take()?,
+            most,
+        })
+    }
+
+    // Moves the turn to a later round, because there is no memory for it now.
+    fn put_off(&mut self, index: usize) -> Action {
+        self.enter(index, Phase::Silent);
+        self.make_due(index);
+        Action::Pass
     }
 
     // Handles one event of the last poll.
-    fn step_events(&mut self, slots: &[Option<Held<L::End>>], at: usize) -> Step {
+    fn step_events(&mut self, slots: &[Option<Held<L::End>>], at: usize) -> Action {
         let Some(event) = self.told(at) else {
             self.stage = self.behind_or_not();
-            return Step::Go(None);
+            return Action::Pass;
         };
         self.stage = Stage::Events(at.saturating_add(1));
         let Token(index) = event.token();
         if index == LISTENER.0 {
             self.door.knock();
-            return Step::Go(None);
+            return Action::Pass;
         }
-        let deed = self.take_up(slots, index, event);
-        self.go(index, deed)
+        or_pass(self.take_up(slots, index, event))
     }
 
     // The event at this index.
@@ -165,15 +166,17 @@ impl<R: time::Clock, L: Listener> Book<'_, R, L> {
         slots: &[Option<Held<L::End>>],
         index: usize,
         event: Event,
-    ) -> Option<Deed> {
+    ) -> Option<Action> {
         let is_closing = is_closing(event);
         if let Some(peer) = self.peers.get_mut(index) {
             peer.note(is_closing, event.is_readable());
         }
         match self.phase(index) {
-            Phase::Free | Phase::Waits { .. } | Phase::Due => None,
+            Phase::Free | Phase::Waits | Phase::Due => None,
             Phase::Silent | Phase::Head | Phase::Body { .. } => self.read(slots, index),
-            Phase::Answer { .. } if is_closing | event.is_writable() => Some(Deed::Send),
+            Phase::Answer { .. } if is_closing | event.is_writable() => {
+                Some(Action::Send { index })
+            }
             Phase::Answer { .. } => None,
             Phase::Leaving { .. } => self.throw_away(slots, index),
         }
@@ -188,17 +191,16 @@ impl<R: time::Clock, L: Listener> Book<'_, R, L> {
     }
 
     // Reads a connection that may have been left.
-    fn step_behind(&mut self, slots: &[Option<Held<L::End>>], at: usize) -> Step {
+    fn step_behind(&mut self, slots: &[Option<Held<L::End>>], at: usize) -> Action {
         if at >= self.peers.len() {
             self.stage = self.look_or_not();
-            return Step::Go(None);
+            return Action::Pass;
         }
         if at == 0 {
             self.is_behind = false;
         }
         self.stage = Stage::Behind(at.saturating_add(1));
-        let deed = self.read(slots, at);
-        self.go(at, deed)
+        or_pass(self.read(slots, at))
     }
 
     // The stage after reading: checks the timeouts, if the last check was some time ago.
@@ -216,68 +218,80 @@ impl<R: time::Clock, L: Listener> Book<'_, R, L> {
         if self.may_accept() {
             return Stage::Accept(MOST_ACCEPTS);
         }
-        Stage::Rooms
+        Stage::Cuts
     }
 
     // Checks the timeout of a connection.
-    fn step_look(&mut self, slots: &[Option<Held<L::End>>], at: usize) -> Step {
+    fn step_look(&mut self, slots: &[Option<Held<L::End>>], at: usize) -> Action {
         if at >= self.peers.len() {
             self.stage = self.accept_or_not();
-            return Step::Go(None);
+            return Action::Pass;
         }
         self.stage = Stage::Look(at.saturating_add(1));
-        let deed = self.end_of_patience(slots, at);
-        self.go(at, deed)
+        or_pass(self.end_of_patience(slots, at))
     }
 
-    // Takes in a connection, if one may come. A connection that just came with a whole message has its turn
-    // first.
-    fn step_accept(&mut self, slots: &[Option<Held<L::End>>], left: usize) -> Step {
+    // Takes in a connection, if one may come. A connection that just came and whose turn is due has it first.
+    fn step_accept(&mut self, slots: &[Option<Held<L::End>>], left: usize) -> Action {
         if let Some(index) = self.rounds.pop() {
-            return self.turn(index);
+            return self.turn(slots, index);
         }
         self.stage = match left.checked_sub(1) {
             Some(left) => Stage::Accept(left),
-            None => Stage::Rooms,
+            None => Stage::Cuts,
         };
         match self.next_to_come() {
-            Some(step) => step,
-            None => self.step_rooms(slots),
+            Some(action) => action,
+            None => self.step_cuts(slots),
         }
     }
 
-    // Gives room to a connection that waits for it, or cuts off a connection in favour of others. The next
-    // round begins after the last one.
-    fn step_rooms(&mut self, slots: &[Option<Held<L::End>>]) -> Step {
-        self.stage = Stage::Rooms;
+    // Cuts off the connection whose answers wait longest, while too many wait. Then chooses the bodies that go
+    // on, if not all do.
+    fn step_cuts(&mut self, slots: &[Option<Held<L::End>>]) -> Action {
+        self.stage = Stage::Cuts;
         if self.is_laden {
             self.is_laden = false;
             if let Some(index) = self.too_slow(slots) {
                 self.is_laden = true;
-                let deed = self.cut(slots, index);
-                return self.go(index, deed);
+                return or_pass(self.cut(slots, index));
             }
         }
-        let Some((index, len)) = self.rooms.serve(self.now) else {
-            self.rounds.begin();
-            self.stage = Stage::Turns;
-            return match self.make_room(slots) {
-                Some(task) => Step::Go(Some(task)),
-                None => self.step_turns(slots),
-            };
-        };
-        let deed = self.begin_large(slots, index, len);
-        self.go(index, deed)
+        if !self.is_waiting {
+            return self.begin_round(slots);
+        }
+        self.is_waiting = false;
+        self.rooms.choose(&mut self.peers);
+        self.stage = Stage::Rooms(0);
+        or_pass(self.make_room(slots))
     }
 
-    // If a connection waits for room, a body that comes too slowly gives up its own.
-    fn make_room(&mut self, slots: &[Option<Held<L::End>>]) -> Option<Task> {
+    // While a body waits for room, one of which nothing comes gives up its own.
+    fn make_room(&mut self, slots: &[Option<Held<L::End>>]) -> Option<Action> {
         if !self.rooms.is_short() {
             return None;
         }
-        let index = self.slowest_body()?;
-        let deed = self.give_up(slots, index, ErrorKind::TimedOut)?;
-        Some(Task { index, deed })
+        let index = self.most_silent_body()?;
+        self.give_up(slots, index, ErrorKind::TimedOut)
+    }
+
+    // Judges a body that waited for room again. The next round begins after the last one.
+    fn step_rooms(&mut self, slots: &[Option<Held<L::End>>], at: usize) -> Action {
+        if at >= self.peers.len() {
+            return self.begin_round(slots);
+        }
+        self.stage = Stage::Rooms(at.saturating_add(1));
+        match self.phase(at) {
+            Phase::Waits => or_pass(self.judge(slots, at)),
+            _ => Action::Pass,
+        }
+    }
+
+    // Begins the next round.
+    fn begin_round(&mut self, slots: &[Option<Held<L::End>>]) -> Action {
+        self.rounds.begin();
+        self.stage = Stage::Turns;
+        self.step_turns(slots)
     }
 
     // The timeout of the next poll.
@@ -304,29 +318,8 @@ impl<R: time::Clock, L: Listener> Book<'_, R, L> {
         }
     }
 
-    /// The next action on the connection after this report.
-    pub(crate) fn told_of(
-        &mut self,
-        slots: &[Option<Held<L::End>>],
-        index: usize,
-        report: Report,
-    ) -> Option<Deed> {
-        match report {
-            Report::Gathered(outcome, is_full) => self.gathered(slots, index, outcome, is_full),
-            Report::Reserved(outcome) => self.reserved(slots, index, outcome),
-            Report::Settled(room) => self.settled(slots, index, room),
-            Report::Failing => self.make_due(index),
-            Report::Sent(sending) => self.sent(slots, index, sending),
-            Report::Freed => {
-                self.freed(index);
-                None
-            }
-            Report::Nothing => self.look_again(slots, index),
-        }
-    }
-
     // A connection that was to be closed is not through. If it is open, it is judged again.
-    fn look_again(&mut self, slots: &[Option<Held<L::End>>], index: usize) -> Option<Deed> {
+    fn look_again(&mut self, slots: &[Option<Held<L::End>>], index: usize) -> Option<Action> {
         let seat = seat_at(slots, index)?;
         if seat.end().is_some() {
             return None;
@@ -341,4 +334,12 @@ impl<R: time::Clock, L: Listener> Book<'_, R, L> {
 // Whether the peer sends no more, or has failed.
 fn is_closing(event: Event) -> bool {
     event.is_read_closed() || event.is_error()
+}
+
+// The action, or none.
+fn or_pass(action: Option<Action>) -> Action {
+    match action {
+        Some(action) => action,
+        None => Action::Pass,
+    }
 }

@@ -42,7 +42,7 @@ use sqlite::{Alter, Connection, ErrorCode};
 use sqlite_schema::schema::Schema;
 use sqltables::staging::Pieces;
 use std::alloc::Global;
-use std::str;
+use std::{mem, str};
 use thiserror::Error;
 
 /// Keeps an office in a file, through a connection to it. It counts the calls that fail.
@@ -551,6 +551,14 @@ impl<S: Alter> Keeper for SqlKeeper<S> {
             bytes: &self.staged,
         };
         counted(&mut self.faults, ask(&mut self.conn, &question))
+    }
+
+    fn stage_take(&mut self) -> Vec<u8> {
+        mem::replace(&mut self.staged, Pieces::new(self.alloc)).into_bytes()
+    }
+
+    fn stage_put(&mut self, bytes: Vec<u8>) {
+        self.staged = Pieces::of(bytes);
     }
 
     fn stage_drop(&mut self) -> Result<(), KeepFault> {

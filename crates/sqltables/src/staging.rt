@@ -28,6 +28,21 @@ impl Pieces {
         }
     }
 
+    /// These bytes, moved.
+    pub fn of(bytes: Vec<u8>) -> Pieces
+        ensures { held result ≡ bytes.items }
+    {
+        Pieces { bytes }
+    }
+
+    /// The bytes, moved.
+    pub fn into_bytes(self) -> Vec<u8>
+        ensures { result.items ≡ held self }
+    {
+        let Pieces { bytes } = self;
+        bytes
+    }
+
     /// The number of bytes.
     pub fn len(&self) -> usize
         ensures { result ≡ length (held self.now) }

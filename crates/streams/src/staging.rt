@@ -1,32 +1,20 @@
 //! Uploads that are staged in pieces: which calls they make of a keeper, and what they leave staged, also if it refuses each
 //! call in turn. The receipt comes from Python's `hashlib`.
-use boxes::Mode;
 use links::LinkKey;
-use office::Office;
-use shelf::Shelf;
 use std::alloc::Global;
 use std::test::Fail;
-use trials::boxed::{Asked, add_box, begun, settings};
-use trials::errands::set_file;
+use trials::boxed::Asked;
 use trials::owed::{NO_SIGNATURE, PAST_QUOTA};
 use trials::published::{DATE, ID, TRY_AGAIN};
-use trials::staged::{SIZE, body, breaks_off, is_unstaged, left_by, source, upload_of};
+use trials::staged::{
+    SIZE, body, breaks_off, is_unstaged, left_by, make_watched, source, upload_of,
+};
 use trials::telling::{holds, told};
-use trials::watched::Watched;
 use wire::SessionEnd;
 
 // The receipt number 2, for 200000 bytes.
 const SECOND: &[u8] =
     b"HTTP/1.1 200 OK\r\nContent-Type: text/plain\r\nContent-Length: 82\r\n\r\nreceipt 2 200000 e24bc62381f1224fbbb74688663f8f9743b9680b193edd666835e97b06e730eb\n";
-
-// A watched office in memory with a box `in` of this quota, which has an empty file `a2.txt`.
-fn make_watched(alloc: Global, quota: u64) -> Result<Office<Watched<Shelf>>, Fail> {
-    let office = begun(alloc, 0)?;
-    let mut office = Office::new(alloc, Watched::new(office.keeper));
-    add_box(&mut office.keeper, &settings(Mode::Replace, quota, 9))?;
-    set_file(&mut office.keeper, b"a2.txt", b"")?;
-    Ok(office)
-}
 
 // The result of an upload with one keeper call to be refused.
 #[derive(Clone, Copy, Debug, PartialEq, Eq)]

@@ -4,7 +4,7 @@ use std::io;
 use std::io::{ErrorKind, Read, Write};
 use std::test::Fail;
 use wire::{
-    Counted, Feed, Gathered, Gathering, MOST_FIELDS, MOST_HEAD, NO_FIELD, Outbox, Room, Sending,
+    Buffer, Counted, Feed, Gathered, Gathering, MOST_FIELDS, MOST_HEAD, NO_FIELD, Outbox, Sending,
     Standing, Step, message_len,
 };
 
@@ -15,15 +15,13 @@ fn what_was_gathered_comes_first(rt: HostRuntime) -> Result<(), Fail> {
     for most in 1..TEXT.len() {
         let turns = [Turn::Moves(most), Turn::Fails(ErrorKind::WouldBlock)];
         let mut reader = Gathered::new(rt.alloc(), Slow::new(rt.alloc(), &turns, TEXT));
-        let mut buffer = [0; 64];
-        assert_eq!(rt; reader.gather(&mut buffer)?, Gathering::Came);
-        assert_eq!(rt; reader.gather(&mut buffer)?, Gathering::Waits);
-        reader.make_room(64)?;
+        assert_eq!(rt; reader.gather(64)?, Gathering::Came);
+        assert_eq!(rt; reader.gather(64)?, Gathering::Waits);
         assert_eq!(rt; reader.ahead(), &TEXT[..most]);
         let mut text = Vec::new(rt.alloc());
         assert_eq!(rt; reader.read_to_end(&mut text)?, TEXT.len());
         assert_eq!(rt; text.as_slice(), TEXT);
-        assert_eq!(rt; reader.gather(&mut buffer)?, Gathering::Ended);
+        assert_eq!(rt; reader.gather(64)?, Gathering::Ended);
     }
     Ok(())
 }
@@ -33,10 +31,10 @@ fn the_first_fault_stays(rt: HostRuntime) -> Result<(), Fail> {
     let turns = [Turn::Moves(3), Turn::Fails(ErrorKind::ConnectionReset)];
     let mut reader = Gathered::new(rt.alloc(), Slow::new(rt.alloc(), &turns, TEXT));
     let mut buffer = [0; 64];
-    assert_eq!(rt; reader.gather(&mut buffer)?, Gathering::Came);
-    assert_eq!(rt; reader.gather(&mut buffer)?, Gathering::Failed);
+    assert_eq!(rt; reader.gather(64)?, Gathering::Came);
+    assert_eq!(rt; reader.gather(64)?, Gathering::Failed);
     reader.fail(io::Error::from(ErrorKind::TimedOut));
-    assert_eq!(rt; reader.gather(&mut buffer)?, Gathering::Failed);
+    assert_eq!(rt; reader.gather(64)?, Gathering::Failed);
     assert_eq!(rt; reader.inner.calls, 2);
     assert_eq!(rt; reader.read(&mut buffer)?, 3);
     assert!(rt; fails(reader.read(&mut buffer), ErrorKind::ConnectionReset));
@@ -46,10 +44,10 @@ fn the_first_fault_stays(rt: HostRuntime) -> Result<(), Fail> {
 #[test]
 fn what_a_feed_leaves_is_put_back(rt: HostRuntime) -> Result<(), Fail> {
     let mut reader = Counted::new(Gathered::new(rt.alloc(), Slow::new(rt.alloc(), &[], TEXT)));
-    assert_eq!(rt; reader.inner.gather(&mut [0; 64])?, Gathering::Came);
+    assert_eq!(rt; reader.inner.gather(64)?, Gathering::Came);
     reader.inner.fail(io::Error::from(ErrorKind::TimedOut));
-    let (standing, room) = (Standing::new(rt.alloc()), Room::new(rt.alloc())?);
-    let mut feed = Feed::resume(standing, room, &mut reader);
+    let (standing, buffer) = (Standing::new(rt.alloc()), Buffer::new(rt.alloc())?);
+    let mut feed = Feed::resume(standing, buffer, None, &mut reader);
     let (mut text, mut fields) = ([0; MOST_HEAD], [NO_FIELD; MOST_FIELDS]);
     let came = feed.next(&mut text, &mut fields);
     assert!(rt; matches!(came, Ok(Step::Head(head)) if head.text == &TEXT[..19]));

@@ -8,17 +8,17 @@ use Rattle.clap.specs.Faults.{fault_of, is_simple_and_free, level_fault}
 use Rattle.clap.specs.Walk.{Row, Text, answers_to, nothing_held, rows_after}
 use Rattle.clap.specs.Words.{App, subcommand_of}
 use Rattle.clap.proofs.OnLiterals.{clap_on_literals}
-use Rattle.tasks.specs.Tasks.{HasDesk, HasExport, HasInit, HasLink, HasLinks, HasListing, HasOneSecret, HasReplay, HasServe, HasValue, NamesOneSecret, NamesTask, allowance_rule, at_rule, box_rule, clerk_rule, compare_app, connections_rule, desk_app, dir_rule, drop_app, east_rule, expires_rule, export_app, file_rule, host_rule, init_app, key_rule, line_rule, link_app, links_app, list_app, listen_rule, manifest_app, manifest_rule, method_rule, migrate_app, open_rule, patience_rule, region_rule, replay_app, secret_file_rule, secret_rule, serve_app, start_rule, streams_rule, target_app, target_rule, west_rule, what_rule}
+use Rattle.tasks.specs.Tasks.{HasDesk, HasExport, HasInit, HasLink, HasLinks, HasListing, HasOneSecret, HasReplay, HasServe, HasValue, NamesOneSecret, NamesTask, allowance_rule, at_rule, box_rule, clerk_rule, compare_app, connections_rule, desk_app, dir_rule, drop_app, east_rule, expires_rule, export_app, file_rule, host_rule, init_app, key_rule, line_rule, link_app, links_app, list_app, listen_rule, manifest_app, manifest_rule, method_rule, migrate_app, open_rule, patience_rule, region_rule, replay_app, room_rule, secret_file_rule, secret_rule, serve_app, start_rule, streams_rule, target_app, target_rule, west_rule, what_rule}
 use Rattle.tasks.proofs.FullRows.{fills}
 use Rattle.tasks.proofs.Defaulted.{all_given, default_value, has_default}
 use Rattle.tasks.proofs.FaultFree.{Enters, enters, needed_value, needs}
 
 pub simple : is_simple drop_app ≡ true
-unfolding drop_app init_app desk_app link_app target_app links_app manifest_app compare_app list_app export_app replay_app serve_app migrate_app file_rule line_rule what_rule dir_rule box_rule streams_rule at_rule method_rule target_rule clerk_rule secret_rule secret_file_rule key_rule host_rule region_rule start_rule expires_rule east_rule west_rule allowance_rule listen_rule connections_rule patience_rule open_rule manifest_rule clap_on_literals
+unfolding drop_app init_app desk_app link_app target_app links_app manifest_app compare_app list_app export_app replay_app serve_app migrate_app file_rule line_rule what_rule dir_rule box_rule streams_rule at_rule method_rule target_rule clerk_rule secret_rule secret_file_rule key_rule host_rule region_rule start_rule expires_rule east_rule west_rule allowance_rule listen_rule connections_rule patience_rule open_rule room_rule manifest_rule clap_on_literals
 simple = refl
 
 pub simple_and_free : is_simple_and_free drop_app ≡ true
-unfolding drop_app init_app desk_app link_app target_app links_app manifest_app compare_app list_app export_app replay_app serve_app migrate_app file_rule line_rule what_rule dir_rule box_rule streams_rule at_rule method_rule target_rule clerk_rule secret_rule secret_file_rule key_rule host_rule region_rule start_rule expires_rule east_rule west_rule allowance_rule listen_rule connections_rule patience_rule open_rule manifest_rule clap_on_literals
+unfolding drop_app init_app desk_app link_app target_app links_app manifest_app compare_app list_app export_app replay_app serve_app migrate_app file_rule line_rule what_rule dir_rule box_rule streams_rule at_rule method_rule target_rule clerk_rule secret_rule secret_file_rule key_rule host_rule region_rule start_rule expires_rule east_rule west_rule allowance_rule listen_rule connections_rule patience_rule open_rule room_rule manifest_rule clap_on_literals
 simple_and_free = refl
 
 -- ---- the commands as clap builds them
@@ -381,7 +381,7 @@ unfolding serve_built settings drop_app serve_app
 serve_name = refl
 
 serve_fills : list_all fills serve_built.rules ≡ true
-unfolding serve_built settings drop_app serve_app file_rule listen_rule connections_rule patience_rule open_rule manifest_rule
+unfolding serve_built settings drop_app serve_app file_rule listen_rule connections_rule patience_rule open_rule room_rule manifest_rule
 serve_fills = refl
 
 serve_asks : serve_built.subcommand_negates_reqs ≡ false
@@ -389,23 +389,23 @@ unfolding serve_built settings drop_app serve_app
 serve_asks = refl
 
 serve_needs_file : needs (codes "file") serve_built.rules ≡ true
-unfolding serve_built settings drop_app serve_app file_rule listen_rule connections_rule patience_rule open_rule manifest_rule
+unfolding serve_built settings drop_app serve_app file_rule listen_rule connections_rule patience_rule open_rule room_rule manifest_rule
 serve_needs_file = refl
 
 serve_needs_listen : needs (codes "listen") serve_built.rules ≡ true
-unfolding serve_built settings drop_app serve_app file_rule listen_rule connections_rule patience_rule open_rule manifest_rule
+unfolding serve_built settings drop_app serve_app file_rule listen_rule connections_rule patience_rule open_rule room_rule manifest_rule
 serve_needs_listen = refl
 
 serve_needs_connections : needs (codes "connections") serve_built.rules ≡ true
-unfolding serve_built settings drop_app serve_app file_rule listen_rule connections_rule patience_rule open_rule manifest_rule
+unfolding serve_built settings drop_app serve_app file_rule listen_rule connections_rule patience_rule open_rule room_rule manifest_rule
 serve_needs_connections = refl
 
 serve_has_patience : has_default (codes "patience") serve_built.rules ≡ true
-unfolding serve_built settings drop_app serve_app file_rule listen_rule connections_rule patience_rule open_rule manifest_rule
+unfolding serve_built settings drop_app serve_app file_rule listen_rule connections_rule patience_rule open_rule room_rule manifest_rule
 serve_has_patience = refl
 
 serve_has_open : has_default (codes "open") serve_built.rules ≡ true
-unfolding serve_built settings drop_app serve_app file_rule listen_rule connections_rule patience_rule open_rule manifest_rule
+unfolding serve_built settings drop_app serve_app file_rule listen_rule connections_rule patience_rule open_rule room_rule manifest_rule
 serve_has_open = refl
 
 serve_values : (words : List Text) → level_fault serve_built [] nothing_held words false [] ≡ [] → HasServe (rows_after serve_built.rules [] words)

@@ -112,6 +112,10 @@ patience_rule = record (new_rule (codes "patience")) { long = Some (codes "patie
 unfoldable pub open_rule : Rule
 open_rule = record (new_rule (codes "open")) { long = Some (codes "open"); value_names = 1; defaults = codes "512" ∷ []; parser = Some (Unsigned 1 4096) }
 
+-- --room MB, a whole number from 1 to 1000000, optional
+unfoldable pub room_rule : Rule
+room_rule = record (optional_rule (codes "room")) { parser = Some (Unsigned 1 1000000) }
+
 -- --manifest OUT, optional
 unfoldable pub manifest_rule : Rule
 manifest_rule = optional_rule (codes "manifest")
@@ -176,11 +180,11 @@ export_app = with_rule (with_rule (with_rule (new_app (codes "export")) file_rul
 unfoldable pub replay_app : App
 replay_app = with_rule (with_rule (with_rule (new_app (codes "replay")) file_rule) streams_rule) at_rule
 
--- serve FILE --listen ADDR --connections N --patience SECONDS --open N --manifest OUT
+-- serve FILE --listen ADDR --connections N --patience SECONDS --open N --room MB --manifest OUT
 unfoldable pub serve_app : App
 serve_app =
     let with_bounds = with_rule (with_rule (with_rule (new_app (codes "serve")) file_rule) listen_rule) connections_rule in
-    with_rule (with_rule (with_rule with_bounds patience_rule) open_rule) manifest_rule
+    with_rule (with_rule (with_rule (with_rule with_bounds patience_rule) open_rule) room_rule) manifest_rule
 
 -- migrate FILE
 unfoldable pub migrate_app : App
@@ -278,6 +282,7 @@ IsServeIn rows s =
     × (first_of (codes "connections") rows ≡ Some s.connections.now)
     × (first_of (codes "patience") rows ≡ Some s.patience.now)
     × (first_of (codes "open") rows ≡ Some s.open.now)
+    × (first_of (codes "room") rows ≡ option_map (λ m. m.now) s.room)
     × (first_of (codes "manifest") rows ≡ option_map (λ m. m.now) s.manifest)
 
 -- the matches contain a value for this argument

@@ -148,9 +148,10 @@ pub struct Replay<'a> {
     pub streams: Vec<&'a str>,
 }
 
-/// The values of `drop serve FILE --listen ADDR --connections N --patience SECONDS --open N --manifest OUT`,
-/// as they were given. SECONDS defaults to `30`, and the open connections to `512`. The connections are 1 to
-/// 1000000, SECONDS is 0 to 3600, and the open connections are 1 to 4096; no other value is checked here.
+/// The values of `drop serve FILE --listen ADDR --connections N --patience SECONDS --open N --room MB
+/// --manifest OUT`, as they were given. SECONDS defaults to `30`, and the open connections to `512`. The
+/// connections are 1 to 1000000, SECONDS is 0 to 3600, the open connections are 1 to 4096, and MB is 1 to
+/// 1000000; no other value is checked here.
 #[derive(Debug, Clone, Copy)]
 pub struct Serve<'a> {
     /// The office file.
@@ -163,6 +164,8 @@ pub struct Serve<'a> {
     pub patience: &'a str,
     /// How many connections may be open at a time.
     pub open: &'a str,
+    /// How many megabytes of files may be kept while the rest of them comes, if that is given.
+    pub room: Option<&'a str>,
     /// The file that is kept up to date as the manifest, if one is named.
     pub manifest: Option<&'a str>,
 }
@@ -535,6 +538,7 @@ impl<'a> Serve<'a> {
             connections,
             patience,
             open,
+            room: value_of(values, "room"),
             manifest: value_of(values, "manifest"),
         })
     }

@@ -474,7 +474,7 @@ static REPLAY: Form = Form {
     ],
 };
 
-// `serve FILE --listen ADDR --connections N --patience SECONDS --open N --manifest OUT`.
+// `serve FILE --listen ADDR --connections N --patience SECONDS --open N --room MB --manifest OUT`.
 static SERVE: Form = Form {
     name: "serve",
     about: "Serves an office over HTTP until the given number of connections have ended",
@@ -508,6 +508,13 @@ static SERVE: Form = Form {
             help: "How many connections may be open at a time: 1 to 4096",
             required: false,
             given: Given::Option(Value::Defaulted(1, 4096, "512")),
+        },
+        Argument {
+            id: "room",
+            value: "MB",
+            help: "How many megabytes of files may be kept while the rest of them comes: 1 to 1000000; a quarter of the memory if not given",
+            required: false,
+            given: Given::Option(Value::Number(1, 1_000_000)),
         },
         Argument {
             id: "manifest",

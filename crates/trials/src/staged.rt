@@ -1,12 +1,14 @@
 //! Uploads that are staged in several pieces, and uploads that break off, over any watched keeper.
-use crate::boxed::put;
+use crate::boxed::{add_box, begun, put, settings};
+use crate::errands::set_file;
 use crate::fakes::{Sink, Source};
 use crate::owed::NO_WHOLE_BODY;
 use crate::published::DATE;
 use crate::telling::{holds, told};
 use crate::watched::Watched;
-use boxes::Keeper;
+use boxes::{Keeper, Mode};
 use office::{Counted, FixedClock, Office};
+use shelf::Shelf;
 use sigv4::Moment;
 use std::alloc::Global;
 use std::test::Fail;
@@ -38,6 +40,15 @@ pub fn source(rest: &[u8], at_once: usize) -> Source<'_> {
         at_once,
         fails: false,
     }
+}
+
+/// A watched office in memory with a box `in` of this quota, which has an empty file `a2.txt`.
+pub fn make_watched(alloc: Global, quota: u64) -> Result<Office<Watched<Shelf>>, Fail> {
+    let office = begun(alloc, 0)?;
+    let mut office = Office::new(alloc, Watched::new(office.keeper));
+    add_box(&mut office.keeper, &settings(Mode::Replace, quota, 9))?;
+    set_file(&mut office.keeper, b"a2.txt", b"")?;
+    Ok(office)
 }
 
 /// The result of a session.

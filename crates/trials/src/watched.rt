@@ -4,7 +4,8 @@ ghost use Rattle.sigtext.specs.Counts.{CountsErrors};
 
 use boxes::{BoxRow, Change, FileRow, KeepFault, Keeper, KeyRow, OfficeRow, ReceiptRow, Totals};
 
-/// Passes each call on, except the one that it refuses. Its contract claims no state.
+/// Passes each call on, except the one that it refuses. Its contract claims no state, only what is staged: what the inner keeper
+/// has staged.
 #[derive(Drop)]
 pub struct Watched<K> {
     pub inner: K,
@@ -45,6 +46,7 @@ impl<K> Watched<K> {
     fn enter(&mut self) -> Result<(), KeepFault>
         ensures kind { IfErr result (λ f. f ≡ KeepFault.Store) }
         ensures count { CountsErrors self.old.faults self.new.faults result }
+        ensures inner { self.new.inner ≡ self.old.inner }
     {
         self.calls = self.calls.saturating_add(1);
         if self.calls != self.refused {
@@ -58,6 +60,7 @@ impl<K> Watched<K> {
     fn leave<T>(&mut self, outcome: Result<T, KeepFault>) -> Result<T, KeepFault>
         ensures same { result ≡ outcome }
         ensures count { CountsErrors self.old.faults self.new.faults result }
+        ensures inner { self.new.inner ≡ self.old.inner }
     {
         if outcome.is_err() {
             self.faults = self.faults.saturating_add(1);
@@ -69,7 +72,7 @@ impl<K> Watched<K> {
 impl<K: Keeper> Keeper for Watched<K> {
     ghost means = { λ _ _. ⊥ };
 
-    ghost stages = { λ _ _. Unit {0} };
+    ghost stages = { λ k b. K.stages k.inner b };
 
     ghost is_honest = { λ _. ⊥ };
 
@@ -170,6 +173,14 @@ impl<K: Keeper> Keeper for Watched<K> {
         self.enter()?;
         let outcome = self.inner.staged_equals(in_box, name);
         self.leave(outcome)
+    }
+
+    fn stage_take(&mut self) -> Vec<u8> {
+        self.inner.stage_take()
+    }
+
+    fn stage_put(&mut self, bytes: Vec<u8>) {
+        self.inner.stage_put(bytes);
     }
 
     fn stage_drop(&mut self) -> Result<(), KeepFault> {

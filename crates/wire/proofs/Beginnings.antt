@@ -1,11 +1,11 @@
 -- What `next` tells where a message may begin.
 use Rattle.std.proofs.Common.{◌≡◌, ℕ, List, Option, Result, Ok, Err, inl, inr, ap, subst, ◌∙◌}
 use Rattle.wire.specs.declared.fault.WireFault.{WireFault}
-use Rattle.wire.specs.declared.fault.WireFault.TheVariants as fault
 use Rattle.wire.specs.declared.feed.Place.{Place}
 use Rattle.wire.specs.declared.feed.Place.TheVariants as place
 use Rattle.wire.specs.Feeding.{StepTold, CountsReads, Finds, GivesStep, place_after, told}
 use Rattle.sigtext.specs.declared.field.Field.{Field}
+use Rattle.wire.proofs.Faults.{counts_same}
 use Rattle.wire.specs.Openings.{ArePartsOf, OpensWith}
 use Rattle.wire.specs.Whole.{MayBegin}
 use Rattle.wire.specs.declared.feed.Opening.{Opening}
@@ -49,11 +49,6 @@ parts_by fields result h is o = subst (OpensWith fields) is o
 -- no read failed, or one did
 pub counts_by : (result : Result (Step Opening) WireFault) (s : Step Opening) (old new : ℕ) → result ≡ Ok s → CountsReads result old new → new ≡ old
 counts_by result s old new is counts = subst (λ (r : Result (Step Opening) WireFault). CountsReads r old new) is counts
-
-counts_same : (A B : Type 0) (f : WireFault) (old new : ℕ) → CountsReads {T = A} (Err f) old new → CountsReads {T = B} (Err f) old new
-counts_same A B fault.Read old new counts = counts
-counts_same A B fault.Write old new counts = counts
-counts_same A B fault.Memory old new counts = counts
 
 pub counts_failed : (A B : Type 0) (result : Result A WireFault) (f : WireFault) (old new : ℕ) → result ≡ Err f → CountsReads result old new → CountsReads {T = B} (Err f) old new
 counts_failed A B result f old new is counts = counts_same A B f old new (subst (λ (r : Result A WireFault). CountsReads r old new) is counts)

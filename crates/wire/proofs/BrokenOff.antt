@@ -2,7 +2,7 @@
 use Rattle.std.proofs.Common.{◌≡◌, ◌<◌, ℕ, Bool, List, [], ◌++◌, length, Option, Result, Err, inl, inr, arith, refl, ap, subst, ◌∙◌}
 use Rattle.std.specs.Io.KnownBytes.{Consumes, Keeps, prepend_known}
 use Rattle.std.proofs.KnownBytes.{Consumes-kept, prepend_known-nil}
-use Rattle.wire.specs.Feeding.{AnnouncesBody, Awaits, a_body, Finds, GivesStep, told, Opens}
+use Rattle.wire.specs.Feeding.{AnnouncesBody, Awaits, a_body, Finds, GivesStep, place_after, told, Opens}
 use Rattle.wire.specs.Whole.{BreaksOff, MayBegin}
 use Rattle.wire.specs.declared.fault.WireFault.{WireFault}
 use Rattle.wire.specs.declared.fault.WireFault.TheVariants as fault
@@ -31,22 +31,25 @@ pieces_taken start here reader waits given taken none kept =
 
 -- ---- where a message may begin
 
-broken_finding : (f : WireFault) (p : Place) (known reader : Option (List ℕ)) (waits : List ℕ) → Finds known (Err f) waits reader → BreaksOff f p known reader
-broken_finding fault.Read p known reader waits (head, kept) = (waits, consumes_waiting known reader waits kept, head)
-broken_finding fault.Memory p known reader waits never = absurd never
-broken_finding fault.Write p known reader waits never = absurd never
+broken_finding : (f : WireFault) (p q : Place) (known reader : Option (List ℕ)) (waits : List ℕ) → q ≡ place_after (Err f) → Finds known (Err f) waits reader
+    → BreaksOff f p known (prepend_known waits reader) reader q
+broken_finding fault.Read p q known reader waits at (head, kept) = (waits, consumes_waiting known reader waits kept, head)
+broken_finding fault.Waits p q known reader waits at (head, kept) = (at, kept, waits, consumes_waiting known reader waits kept, head)
+broken_finding fault.Memory p q known reader waits at never = absurd never
+broken_finding fault.Write p q known reader waits at never = absurd never
 
-no_buffer : (f : WireFault) (known reader : Option (List ℕ)) (waits : List ℕ) → f ≡ fault.Memory → waits ≡ [] → Keeps known (prepend_known waits reader)
-    → BreaksOff f place.Fresh known reader
-no_buffer fault.Memory known reader waits is none kept = (refl, subst (Consumes known reader) none (consumes_waiting known reader waits kept))
-no_buffer fault.Read known reader waits is none kept = absurd cc
-no_buffer fault.Write known reader waits is none kept = absurd cc
+no_buffer : (f : WireFault) (q : Place) (known reader : Option (List ℕ)) (waits : List ℕ) → f ≡ fault.Memory → waits ≡ [] → Keeps known (prepend_known waits reader)
+    → BreaksOff f place.Fresh known (prepend_known waits reader) reader q
+no_buffer fault.Memory q known reader waits is none kept = (refl, subst (Consumes known reader) none (consumes_waiting known reader waits kept))
+no_buffer fault.Read q known reader waits is none kept = absurd cc
+no_buffer fault.Waits q known reader waits is none kept = absurd cc
+no_buffer fault.Write q known reader waits is none kept = absurd cc
 
 broken_there : (p q : Place) (f : WireFault) (known reader : Option (List ℕ)) (waits : List ℕ) → MayBegin p
-    → GivesStep p known (Err f) q waits reader → BreaksOff f p known reader
-broken_there place.Fresh q f known reader waits m (at, inl x) = broken_finding f place.Fresh known reader waits x
-broken_there place.Fresh q f known reader waits m (at, inr (e, none, kept)) = let is : f ≡ fault.Memory = cc in no_buffer f known reader waits is none kept
-broken_there place.Between q f known reader waits m s = broken_finding f place.Between known reader waits s.1
+    → GivesStep p known (Err f) q waits reader → BreaksOff f p known (prepend_known waits reader) reader q
+broken_there place.Fresh q f known reader waits m (at, inl x) = broken_finding f place.Fresh q known reader waits at x
+broken_there place.Fresh q f known reader waits m (at, inr (e, none, kept)) = let is : f ≡ fault.Memory = cc in no_buffer f q known reader waits is none kept
+broken_there place.Between q f known reader waits m s = broken_finding f place.Between q known reader waits s.0 s.1
 broken_there (place.Body k) q f known reader waits (inl e) s = absurd (fresh k e)
 broken_there (place.Body k) q f known reader waits (inr e) s = absurd (between k e)
 broken_there place.Over q f known reader waits (inl e) s = absurd (over_fresh e)
@@ -54,6 +57,6 @@ broken_there place.Over q f known reader waits (inr e) s = absurd (over_between 
 
 -- the same for what a call told
 pub broken_by : (p q : Place) (f : WireFault) (known reader : Option (List ℕ)) (waits : List ℕ) (result : Result (Step Opening) WireFault) → result ≡ Err f → MayBegin p
-    → GivesStep p known (told result) q waits reader → BreaksOff f p known reader
+    → GivesStep p known (told result) q waits reader → BreaksOff f p known (prepend_known waits reader) reader q
 broken_by p q f known reader waits result is m s =
     broken_there p q f known reader waits m (subst (λ (r : Result (Step Opening) WireFault). GivesStep p known (told r) q waits reader) is s)

@@ -1,13 +1,12 @@
 -- What a piece tells of the body that was open.
-use Rattle.std.proofs.Common.{◌≡◌, ◌≤◌, ◌<◌, ◌-◌, ℕ, List, [], length, Option, None, Some, Ok, Err, arith, refl, sym, ap, subst, ◌∙◌}
+use Rattle.std.proofs.Common.{◌≡◌, ◌≤◌, ◌<◌, ◌-◌, ℕ, List, [], length, Option, None, Some, Ok, Err, inl, inr, arith, refl, sym, ap, subst, ◌∙◌}
 use Rattle.std.specs.Io.KnownBytes.{Consumes, IsAtEnd, Keeps, prepend_known}
 use Rattle.std.proofs.KnownBytes.{Keeps-refl}
 use Rattle.std.proofs.lemmas.List.{nil_from_length}
-use Rattle.sigtext.specs.Counts.{Rose}
 use Rattle.sigtext.specs.declared.refusal.Refusal.TheVariants as rule
-use Rattle.wire.specs.Feeding.{Bytes, Done, Lacking, CountsReads, GivesPiece}
+use Rattle.wire.specs.Feeding.{Bytes, Done, Lacking, GivesPiece, stands_after}
+use Rattle.wire.specs.Waiting.{IsOfReading}
 use Rattle.wire.specs.declared.fault.WireFault.{WireFault}
-use Rattle.wire.specs.declared.fault.WireFault.TheVariants as fault
 use Rattle.wire.specs.declared.feed.Place.{Place}
 use Rattle.wire.specs.declared.feed.Place.TheVariants as place
 
@@ -44,11 +43,12 @@ bytes_given p n size known reader waits bytes at some long within most h =
     subst (λ (x : Place). GivesPiece x known (Ok (Bytes bytes)) (place.Body (n - size)) waits reader) (sym at)
     (ap (λ (k : ℕ). place.Body (n - k)) (sym long), subst (λ (k : ℕ). 0 < k) (sym long) (positive size some), subst (λ (k : ℕ). k ≤ 65536) (sym long) most, subst (λ (k : ℕ). k ≤ n) (sym long) within, h)
 
-pub failed : (p : Place) (n : ℕ) (f : WireFault) (known reader : Option (List ℕ)) (waits : List ℕ) → p ≡ place.Body n → (n ≡ 0 → ⊥) → f ≡ fault.Read → waits ≡ []
-    → Keeps known (prepend_known waits reader) → GivesPiece p known (Err f) place.Over waits reader
-failed p n f known reader waits at some is none kept =
-    subst (λ (x : Place). GivesPiece x known (Err f) place.Over waits reader) (sym at)
-    (subst (λ (e : WireFault). GivesPiece (place.Body n) known (Err e) place.Over waits reader) (sym is) (refl, positive n some, none, kept))
-
-pub read_counts : (T : Type 0) (f : WireFault) (old new : ℕ) → f ≡ fault.Read → Rose old new → CountsReads {T = T} (Err f) old new
-read_counts T f old new is rose = subst (λ (e : WireFault). CountsReads {T = T} (Err e) old new) (sym is) rose
+-- reading broke off: a read failed, or no more bytes may be read now
+pub failed : (p : Place) (n : ℕ) (f : WireFault) (known reader : Option (List ℕ)) (waits : List ℕ) → p ≡ place.Body n → (n ≡ 0 → ⊥) → IsOfReading f → waits ≡ []
+    → Keeps known (prepend_known waits reader) → GivesPiece p known (Err f) (stands_after p f) waits reader
+failed p n f known reader waits at some (inl is) none kept =
+    subst (λ (x : Place). GivesPiece x known (Err f) (stands_after x f) waits reader) (sym at)
+    (subst (λ (e : WireFault). GivesPiece (place.Body n) known (Err e) (stands_after (place.Body n) e) waits reader) (sym is) (refl, positive n some, none, kept))
+failed p n f known reader waits at some (inr is) none kept =
+    subst (λ (x : Place). GivesPiece x known (Err f) (stands_after x f) waits reader) (sym at)
+    (subst (λ (e : WireFault). GivesPiece (place.Body n) known (Err e) (stands_after (place.Body n) e) waits reader) (sym is) (refl, positive n some, none, kept))

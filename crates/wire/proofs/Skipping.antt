@@ -1,17 +1,16 @@
 -- How far a skipped body was read.
-use Rattle.std.specs.Prelude.{◌≡◌, ℕ, ◌-◌, ◌≤◌, List, length, Option}
-use Rattle.std.specs.Io.KnownBytes.{Consumes}
-use Rattle.wire.specs.Feeds.{left, place_of}
+use Rattle.std.specs.Prelude.{ℕ, List, Option}
+use Rattle.std.specs.Io.KnownBytes.{Keeps}
+use Rattle.wire.specs.Feeds.{whole_left}
+use Rattle.wire.specs.Whole.{StandsIn}
 use Rattle.wire.specs.declared.feed.Feed.{Feed}
 use Rattle.wire.specs.declared.feed.Place.{Place}
 use Rattle.wire.specs.declared.feed.Place.TheVariants as place
 
--- some of the open body of size bytes came, and it is still open
+-- the open body of size bytes is open still, and what is left from its first byte on is the same
 pub record HasSkipped {R : Type 0} (remaining : R → Option (List ℕ)) (size : ℕ) (old new : Feed R) : Type 0 where
-  pub given : List ℕ
-  pub fits : length given ≤ size
-  pub open_still : place_of new ≡ place.Body (size - length given)
-  pub taken : Consumes (left remaining old) (left remaining new) given
+  pub stands : StandsIn size new
+  pub kept : Keeps (whole_left remaining old) (whole_left remaining new)
 
 -- how many bytes of the open body are to come
 abbrev pub to_come : Place → ℕ

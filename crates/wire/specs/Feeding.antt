@@ -94,12 +94,21 @@ Finds known (Ok (Barred r)) waits reader = (0 < number_of r) × (number_of r ≤
 Finds known (Ok Ended) waits reader = (waits ≡ []) × IsAtEnd reader × OfStream known (λ stream. Next stream framing.Ended [])
 Finds known (Ok CutShort) waits reader = IsAtEnd reader × OfStream known (λ stream. Next stream framing.Truncated [])
 Finds known (Err fault.Read) waits reader = AwaitsHead waits × Keeps known (prepend_known waits reader)
+Finds known (Err fault.Waits) waits reader = AwaitsHead waits × Keeps known (prepend_known waits reader)
 Finds known (Err _) waits reader = ⊥
 
--- where a feed stands after what it told
+-- where a feed stands after what it told; it goes on if no more bytes may be read now
 abbrev pub place_after : Result StepTold WireFault → Place
 place_after (Ok (Opened text has_length n)) = place.Body n
+place_after (Err fault.Waits) = place.Between
 place_after _ = place.Over
+
+-- where a feed stands after this fault: it goes on only if no more bytes may be read now
+abbrev pub stands_after : Place → WireFault → Place
+stands_after p fault.Waits = p
+stands_after p fault.Read = place.Over
+stands_after p fault.Write = place.Over
+stands_after p fault.Memory = place.Over
 
 -- What `next` returns, by where the feed stood. Memory is refused in the first call only.
 abbrev pub GivesStep : Place → Option (List ℕ) → Result StepTold WireFault → Place → List ℕ → Option (List ℕ) → Type 0
@@ -118,6 +127,7 @@ GoesOn n known (Ok Done) new waits reader = (new ≡ place.Between) × (n ≡ 0)
 GoesOn n known (Ok (Lacking r)) new waits reader =
     (new ≡ place.Over) × (0 < n) × (r ≡ rule.BodyIncomplete) × IsAtEnd known × Keeps known (prepend_known waits reader)
 GoesOn n known (Err fault.Read) new waits reader = (new ≡ place.Over) × (0 < n) × (waits ≡ []) × Keeps known (prepend_known waits reader)
+GoesOn n known (Err fault.Waits) new waits reader = (new ≡ place.Body n) × (0 < n) × (waits ≡ []) × Keeps known (prepend_known waits reader)
 GoesOn n known (Err _) new waits reader = ⊥
 
 -- what `piece` returns, by where the feed stood

@@ -1,6 +1,6 @@
 -- What the calls on a slot do to its connection, besides what `Gathers` and `Sends` say of its stream and its
 -- answers.
-use Rattle.std.specs.Prelude.{◌≡◌, ◌≤◌, ◌↔◌, ℕ, ◌+◌, List, [], ◌++◌, length, IsOk, IsSome, OnOk, Option, Result}
+use Rattle.std.specs.Prelude.{◌≡◌, ◌≤◌, ◌↔◌, ℕ, ◌+◌, List, [], ◌++◌, length, IsOk, IsSome, Option, Result}
 use Rattle.std.specs.Io.KnownBytes.{Appends}
 use Rattle.wire.specs.Feeds.{ahead_of}
 use Rattle.wire.specs.Gathering.{HasFailed, HasRoomFor, KeepsFault, ahead_in}
@@ -26,11 +26,6 @@ pub record ReadsAhead {S W E : Type 0} (remaining : S → Option (List ℕ)) (n 
 abbrev pub PutsBack : {S W T : Type 0} → Seat (Gathered S) W → Seat (Gathered S) W → Option T → Type 0
 PutsBack a b result =
     (ahead_of b.standing ++ ahead_in b.reader.inner ≡ ahead_of a.standing ++ ahead_in a.reader.inner) × (IsSome result → ahead_of b.standing ≡ []) × KeepsFault a.reader.inner b.reader.inner
-
--- there is room for n more bytes, and the feed and the fault are unchanged
-abbrev pub MakesRoom : {S W T E : Type 0} → ℕ → Seat (Gathered S) W → Seat (Gathered S) W → Result T E → Type 0
-MakesRoom n a b result =
-    (b.standing ≡ a.standing) × (ahead_in b.reader.inner ≡ ahead_in a.reader.inner) × OnOk result (HasRoomFor n b.reader.inner) × KeepsFault a.reader.inner b.reader.inner
 
 -- Reads after the bytes that are ahead fail. If they failed before, the fault is unchanged. The feed is
 -- unchanged.

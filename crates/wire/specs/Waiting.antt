@@ -1,5 +1,5 @@
 -- The bytes in a `Backlog`, and what they show of the stream.
-use Rattle.std.specs.Prelude.{◌≡◌, ◌≢◌, Bool, true, false, ℕ, ◌-◌, ◌<◌, ◌≤◌, List, [], ◌++◌, length, take, slice_range, Option, Result, Ok, Err}
+use Rattle.std.specs.Prelude.{◌≡◌, ◌≢◌, ◌⊎◌, Bool, true, false, ℕ, ◌-◌, ◌<◌, ◌≤◌, List, [], ◌++◌, length, take, slice_range, Option, None, Result, IfErr, Ok, Err}
 use Rattle.std.specs.Io.KnownBytes.{Consumes, IsAtEnd, Keeps}
 use Rattle.sigtext.specs.Limits.{most_head}
 use Rattle.wire.specs.Heads.{IsHeadEnd, HasNoHeadEnd}
@@ -29,10 +29,22 @@ Adds more old new reader rest =
 abbrev pub AddsFrom : {R : Type 0} → (R → Option (List ℕ)) → Bool → Backlog → Backlog → Counted R → Counted R → Type 0
 AddsFrom remaining more old new reader rest = Adds more (waiting old) (waiting new) (remaining reader.inner) (remaining rest.inner)
 
--- The read failed with f: no byte came, and no byte is lost.
+-- a read failed, or no more bytes may be read now
+abbrev pub IsOfReading : WireFault → Type 0
+IsOfReading f = (f ≡ fault.Read) ⊎ (f ≡ fault.Waits)
+
+-- bytes may be read without end
+abbrev pub IsFree : Backlog → Type 0
+IsFree b = b.most ≡ None
+
+-- where bytes may be read without end, it stays so, and no read is put off
+abbrev pub StaysFree : {T : Type 0} → Backlog → Backlog → Result T WireFault → Type 0
+StaysFree old new result = IsFree old → IsFree new × IfErr result (λ f. f ≢ fault.Waits)
+
+-- The read failed with f, or was put off: no byte came, and no byte is lost.
 abbrev pub FailsToAdd : {R : Type 0} → (R → Option (List ℕ)) → WireFault → Backlog → Backlog → Counted R → Counted R → Type 0
 FailsToAdd remaining f old new reader rest =
-    (f ≡ fault.Read) × (waiting new ≡ waiting old) × Keeps (remaining reader.inner) (remaining rest.inner)
+    IsOfReading f × (waiting new ≡ waiting old) × Keeps (remaining reader.inner) (remaining rest.inner)
 
 -- what the waiting bytes show of the front of the stream; reader: what the reader has left
 abbrev pub Shows : Result (Step ℕ) WireFault → List ℕ → Option (List ℕ) → Type 0

@@ -1,8 +1,9 @@
 //! A buffer of bytes that were read ahead.
-ghost use Rattle.std.specs.Prelude.{◌≡◌, ◌↔◌, ◌≤◌, ◌<◌, ◌-◌, ◌+◌, ℕ, List, [], ◌++◌, true, false, length, take, drop, vec_len, IfOk, IfErr, IsTrue, OnErr, OnOk};
+ghost use Rattle.std.specs.Prelude.{◌≡◌, ◌↔◌, ◌≤◌, ◌<◌, ◌-◌, ◌+◌, ℕ, List, [], ◌++◌, true, false, length, take, drop, vec_len, IfOk, IfErr, IsTrue, None, OnErr, OnOk};
 ghost use Rattle.std.specs.Io.KnownBytes.{Consumes, IsAtEnd, Keeps, prepend_known};
 ghost use Rattle.sigtext.specs.Limits.{most_head};
 ghost use Rattle.sigtext.specs.Counts.{CountsErrors};
+ghost use Rattle.wire.specs.Feeding.{CountsReads};
 
 use crate::counted::Counted;
 use crate::fault::WireFault;
@@ -24,21 +25,25 @@ pub struct Backlog {
     bytes: Vec<u8>,
     start: usize,
     end: usize,
+    // How many more bytes may be read now; without end if `None`.
+    most: Option<usize>,
     ghost ordered: { start ≤ end },
     ghost within: { end ≤ vec_len bytes },
 }
 
 impl Backlog {
-    ghost use Rattle.wire.specs.Waiting.{Shows, taken, waiting, AddsFrom, FailsToAdd};
+    ghost use Rattle.wire.specs.Waiting.{Shows, taken, waiting, AddsFrom, FailsToAdd, IsFree, IsOfReading, StaysFree};
 
     /// An empty backlog without a buffer.
     pub fn new(alloc: Global) -> Backlog
-        ensures { waiting result ≡ [] }
+        ensures waiting { waiting result ≡ [] }
+        ensures free { IsFree result }
     {
         Backlog {
             bytes: Vec::new(alloc),
             start: 0,
             end: 0,
+            most: None,
         }
     }
 
@@ -51,7 +56,17 @@ impl Backlog {
             bytes: vec![in alloc; 0; ROOM]?,
             start: 0,
             end: 0,
+            most: None,
         })
+    }
+
+    /// Sets how many more bytes may be read now; without end if `None`.
+    pub fn allow(&mut self, most: Option<usize>)
+        ensures waiting { waiting self.new ≡ waiting self.old }
+        ensures room { vec_len self.new.bytes ≡ vec_len self.old.bytes }
+        ensures most { self.new.most ≡ most }
+    {
+        self.most = most;
     }
 
     /// Allocates the buffer if there is none.
@@ -59,9 +74,12 @@ impl Backlog {
         requires { waiting self.old ≡ [] }
         ensures waiting { waiting self.new ≡ [] }
         ensures room { OnOk result (vec_len self.new.bytes ≡ ROOM) }
+        ensures most { self.new.most ≡ self.old.most }
     {
         if !self.has_room() {
+            let most = self.most;
             *self = Backlog::with_room(alloc)?;
+            self.allow(most);
         }
         Ok(())
     }
@@ -95,6 +113,7 @@ impl Backlog {
         ensures within { n ≤ self.new.start }
         ensures rest { waiting self.new ≡ drop n (waiting self.old) }
         ensures room { vec_len self.new.bytes ≡ vec_len self.old.bytes }
+        ensures most { self.new.most ≡ self.old.most }
     {
         let end = self.end;
         prove!(self.start <= end);
@@ -119,13 +138,21 @@ impl Backlog {
     }
 
     /// Reads once and appends to the waiting bytes. Returns whether any bytes came.
+    ///
+    /// # Errors
+    ///
+    /// `Read` if a read failed. `Waits` if no more bytes may be read now; nothing is read then.
     pub fn read_more<R: Read>(&mut self, reader: &mut Counted<R>) -> Result<bool, WireFault>
         requires { length (waiting self.old) < vec_len self.old.bytes }
         ensures came { IfOk result (λ more. AddsFrom R.remaining more self.old self.new reader.old reader.new) }
         ensures fault { IfErr result (λ f. FailsToAdd R.remaining f self.old self.new reader.old reader.new) }
-        ensures count { CountsErrors reader.old.faults reader.new.faults result }
+        ensures count { CountsReads result reader.old.faults reader.new.faults }
+        ensures free { StaysFree self.old self.new result }
         ensures room { vec_len self.new.bytes ≡ vec_len self.old.bytes }
     {
+        if matches!(self.most, Some(0)) {
+            return Err(WireFault::Waits);
+        }
         self.move_to_front();
         self.read_behind(reader)
     }
@@ -135,6 +162,7 @@ impl Backlog {
         ensures start { self.new.start ≡ 0 }
         ensures kept { waiting self.new ≡ waiting self.old }
         ensures room { vec_len self.new.bytes ≡ vec_len self.old.bytes }
+        ensures most { self.new.most ≡ self.old.most }
     {
         if self.start == 0 {
             return;
@@ -150,12 +178,14 @@ impl Backlog {
         requires room { length (waiting self.old) < vec_len self.old.bytes }
         ensures came { IfOk result (λ more. AddsFrom R.remaining more self.old self.new reader.old reader.new) }
         ensures fault { IfErr result (λ f. FailsToAdd R.remaining f self.old self.new reader.old reader.new) }
-        ensures count { CountsErrors reader.old.faults reader.new.faults result }
+        ensures count { CountsReads result reader.old.faults reader.new.faults }
+        ensures free { StaysFree self.old self.new result }
         ensures room { vec_len self.new.bytes ≡ vec_len self.old.bytes }
     {
         match read_at(&mut self.bytes, self.end, reader) {
             Ok(n) => {
                 self.end += n;
+                self.most = lessened(self.most, n);
                 Ok(n > 0)
             }
             Err(fault) => Err(fault),
@@ -168,14 +198,16 @@ impl Backlog {
     ///
     /// # Errors
     ///
-    /// `Read` if a read failed. The waiting bytes are then less than a head.
+    /// `Read` if a read failed, `Waits` if no more bytes may be read now. The waiting bytes are then less than a
+    /// head.
     pub fn read_head<R: Read>(&mut self, reader: &mut Counted<R>) -> Result<Step<usize>, WireFault>
         requires { vec_len self.old.bytes ≡ ROOM }
         ensures shows { Shows result (waiting self.new) (R.remaining reader.new.inner) }
         ensures kept { Keeps (prepend_known (waiting self.old) (R.remaining reader.old.inner))
             (prepend_known (waiting self.new) (R.remaining reader.new.inner)) }
-        ensures fault { IfErr result (λ f. f ≡ WireFault.Read) }
-        ensures count { CountsErrors reader.old.faults reader.new.faults result }
+        ensures fault { IfErr result IsOfReading }
+        ensures count { CountsReads result reader.old.faults reader.new.faults }
+        ensures free { StaysFree self.old self.new result }
         ensures room { vec_len self.new.bytes ≡ ROOM }
     {
         let mut searched = 0;
@@ -199,6 +231,16 @@ impl Backlog {
                 Err(fault) => return Err(fault),
             }
         }
+    }
+}
+
+// How many more bytes may be read after n more were read.
+fn lessened(most: Option<usize>, n: usize) -> Option<usize>
+    ensures { most ≡ None → result ≡ None }
+{
+    match most {
+        Some(most) => Some(most.saturating_sub(n)),
+        None => None,
     }
 }
 

@@ -1,18 +1,33 @@
 //! Connections that come and go while others are served.
 ghost use Rattle.std.specs.Prelude.{◌≡◌, ◌<◌, ◌+◌, ℕ, cond, is_some, IfNone, IfSome, List, length};
-ghost use Rattle.wire.specs.Crowds.{ChangesBy, IsOpenAt};
+ghost use Rattle.wire.specs.Crowds.{ChangesBy, IsOpenAt, slot_at};
 
-use crate::Room;
 use crate::seat::Seat;
+use crate::standing::{Buffer, HeadBlock, Spare};
 use std::io::{Read, Write};
 
-/// A turn that is due: the slot of its connection, and the room to use.
+/// A turn that is due.
 #[derive(Drop)]
 pub struct Due {
-    /// The index of the slot.
+    /// The index of the connection's slot.
     pub index: usize,
-    /// The room for the turn.
-    pub room: Room,
+    /// The buffer to use.
+    pub buffer: Buffer,
+    /// The block for the text of a head.
+    pub text: HeadBlock,
+    /// How many bytes may be read; without end if `None`. If they are not enough for a whole message, the
+    /// connection goes on in a later turn.
+    pub most: Option<usize>,
+}
+
+impl Due {
+    /// The buffer and the block.
+    pub fn spare(self) -> Spare {
+        Spare {
+            buffer: Some(self.buffer),
+            text: Some(self.text),
+        }
+    }
 }
 
 /// What happens around an office between two turns. A new connection gets a free slot. Bytes of open
@@ -28,6 +43,9 @@ pub trait Crowd<R: Read, W: Write> {
     /// crowd may rely on it that the connections in the slots are among those that came.
     ghost gave: { Self → (ℕ → ℕ) → List ℕ → Type 0 };
 
+    /// What holds of a connection whose turn is due.
+    ghost settled: { Seat R W → Type 0 };
+
     /// No more turns are due.
     ghost over: { Self → Type 0 };
 
@@ -38,12 +56,13 @@ pub trait Crowd<R: Read, W: Write> {
     ghost few: { (crowd : Self) → turns crowd < 18446744073709551616 };
 
     /// Waits for what comes next. Returns the turn that is due, of an open connection, or `None` if no more
-    /// turns are due. `spare` is the room that the last turn left.
-    fn next(&mut self, slots: &mut [Option<Seat<R, W>>], spare: Option<Room>) -> Option<Due>
+    /// turns are due. `spare` is what the last turn left.
+    fn next(&mut self, slots: &mut [Option<Seat<R, W>>], spare: Spare) -> Option<Due>
         ensures changes { ChangesBy R.remaining W.contents met gave
             self.old self.new slots.old slots.new result }
         ensures within { IfSome result (λ turn. turn.index < length slots.new) }
         ensures due { IfSome result (λ turn. IsOpenAt slots.new turn.index) }
+        ensures settled { IfSome result (λ turn. IfSome (slot_at slots.new turn.index) settled) }
         ensures over { IfNone result (over self.new) }
         ensures counts { turns self.old ≡ turns self.new + cond (is_some result) 1 0 };
 }

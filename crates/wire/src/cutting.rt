@@ -1,9 +1,8 @@
 //! Cutting heads and pieces from the bytes that were read ahead.
 ghost use Rattle.std.specs.Prelude.{◌≡◌, ◌≤◌, ◌<◌, [], ◌++◌, length, vec_len, IfErr, IfOk};
 ghost use Rattle.std.specs.Io.KnownBytes.{Consumes, IsAtEnd, Keeps, prepend_known};
-ghost use Rattle.sigtext.specs.Counts.{CountsErrors};
-ghost use Rattle.wire.specs.Waiting.{taken, waiting};
-ghost use Rattle.wire.specs.Feeding.{Finds, told};
+ghost use Rattle.wire.specs.Waiting.{IsOfReading, StaysFree, taken, waiting};
+ghost use Rattle.wire.specs.Feeding.{CountsReads, Finds, told};
 ghost use Rattle.wire.specs.Openings.{OpensWith};
 
 use crate::announce::read_announcement;
@@ -31,7 +30,8 @@ pub fn find<'t, R: Read>(
         (told result) (waiting backlog.new) (R.remaining reader.new.inner) }
     ensures parts { OpensWith fields.new result }
     ensures room { vec_len backlog.new.bytes ≡ ROOM }
-    ensures count { CountsErrors reader.old.faults reader.new.faults result }
+    ensures count { CountsReads result reader.old.faults reader.new.faults }
+    ensures free { StaysFree backlog.old backlog.new result }
 {
     match backlog.read_head(reader) {
         Ok(Step::Head(size)) => {
@@ -69,11 +69,12 @@ pub fn cut_piece<R: Read>(
         (λ size. size ≡ 0
         → IsAtEnd (prepend_known (waiting backlog.old) (R.remaining reader.old.inner))) }
     ensures fault { IfErr result
-        (λ f. (f ≡ WireFault.Read) × (waiting backlog.new ≡ [])
+        (λ f. IsOfReading f × (waiting backlog.new ≡ [])
         × Keeps (prepend_known (waiting backlog.old) (R.remaining reader.old.inner))
         (prepend_known (waiting backlog.new) (R.remaining reader.new.inner))) }
     ensures room { vec_len backlog.new.bytes ≡ ROOM }
-    ensures count { CountsErrors reader.old.faults reader.new.faults result }
+    ensures count { CountsReads result reader.old.faults reader.new.faults }
+    ensures free { StaysFree backlog.old backlog.new result }
 {
     if !backlog.waiting().is_empty() {
         return Ok(take_some(backlog, to_come));
@@ -91,6 +92,7 @@ fn take_some(backlog: &mut Backlog, most: usize) -> usize
     ensures piece { result ≤ MOST_PIECE }
     ensures none { 0 < most → result ≡ 0 → waiting backlog.old ≡ [] }
     ensures room { vec_len backlog.new.bytes ≡ vec_len backlog.old.bytes }
+    ensures kept { backlog.new.most ≡ backlog.old.most }
 {
     let size = backlog.waiting().len().min(most).min(MOST_PIECE);
     backlog.take(size);

@@ -13,4 +13,7 @@ pub enum WireFault {
     /// Memory was refused.
     #[error("memory was refused")]
     Memory,
+    /// No more bytes may be read now. Nothing is lost: a later call goes on.
+    #[error("no more bytes may be read now")]
+    Waits,
 }

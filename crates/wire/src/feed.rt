@@ -7,7 +7,7 @@ ghost use Rattle.sigtext.specs.Limits.{most_body};
 ghost use Rattle.wire.specs.Framing.{IsFront, Next, Message, Refused, request_of};
 ghost use Rattle.wire.specs.Judging.{HeadAnnounces};
 ghost use Rattle.wire.specs.Feeding.{CountsReads, GivesPiece, GivesStep, Halfway, part, told};
-ghost use Rattle.wire.specs.Waiting.{waiting};
+ghost use Rattle.wire.specs.Waiting.{StaysFree, waiting};
 ghost use Rattle.wire.specs.Cutting.{piece_size, taken_from};
 ghost use Rattle.wire.specs.Openings.{OpensWith};
 ghost use Rattle.wire.specs.declared.feed.Place.TheVariants as stands;
@@ -18,7 +18,8 @@ use crate::counted::Counted;
 use crate::cutting::{cut_piece, find};
 use crate::fault::WireFault;
 use crate::head::{Head, MOST_FIELDS};
-use crate::standing::{Room, Standing};
+use crate::standing::{Buffer, Standing};
+use http_server::Log;
 use sigtext::{Field, Refusal};
 use std::alloc::Global;
 use std::io::Read;
@@ -75,9 +76,20 @@ pub enum Place {
 }
 
 impl Place {
+    ghost use Rattle.wire.specs.Feeding.{stands_after};
     ghost use Rattle.wire.specs.Feeds.{resumed_at};
 
-    // Where a feed stands that is resumed over a room.
+    // Where a feed stands after this fault: it goes on only if no more bytes may be read now.
+    fn after(self, fault: WireFault) -> Place
+        ensures { result ≡ stands_after self fault }
+    {
+        match fault {
+            WireFault::Waits => self,
+            WireFault::Read | WireFault::Write | WireFault::Memory => Place::Over,
+        }
+    }
+
+    // Where a feed stands that is resumed over a buffer.
     fn resumed(self) -> Place
         ensures { result ≡ resumed_at self }
     {
@@ -96,13 +108,16 @@ pub struct Feed<'r, R> {
     alloc: Global,
     backlog: Backlog,
     place: Place,
+    // The pieces of the open body that were given so far.
+    given: Log<Backlog, usize>,
     ghost fresh: { place ≡ stands.Fresh → waiting backlog ≡ [] },
     ghost reserved: { place ≢ stands.Fresh → place ≢ stands.Over → vec_len backlog.bytes ≡ 73728 },
 }
 
 impl<'r, R: Read> Feed<'r, R> {
     ghost use Rattle.wire.specs.contracts.feed.Feed.{the_row};
-    ghost use Rattle.wire.specs.Feeds.{SameReader, ahead_of, left, place_of, reader_of, resumed_at, stood_at, waits_in};
+    ghost use Rattle.wire.specs.Feeds.{GivesOn, SameReader, ahead_of, given_before, given_of, left, place_of, reader_of, resumed_at, stood_at, waits_in};
+    ghost use Rattle.wire.specs.Waiting.{IsFree};
 
     /// Reads nothing and takes no memory.
     pub fn new(alloc: Global, reader: &'r mut Counted<R>) -> Feed<'r, R>
@@ -110,46 +125,62 @@ impl<'r, R: Read> Feed<'r, R> {
         ensures reader { reader_of result ≡ reader.old }
         ensures place { place_of result ≡ Place.Fresh }
         ensures waiting { waits_in result ≡ [] }
+        ensures given { given_of result ≡ [] }
+        ensures free { IsFree result.backlog }
     {
         Feed {
             reader,
             alloc,
             backlog: Backlog::new(alloc),
             place: Place::Fresh,
+            given: Log::new(),
         }
     }
 
-    /// Resumes a feed that was set aside, over the same reader. The feed uses the room, or drops it if its
-    /// own buffer holds waiting bytes. So it has a buffer and takes no memory, also if nothing was read yet.
-    pub fn resume(standing: Standing, room: Room, reader: &'r mut Counted<R>) -> Feed<'r, R>
+    /// Resumes a feed that was set aside, over the same reader. The feed uses the buffer, or drops it if its
+    /// own holds waiting bytes. So it has a buffer and takes no memory, also if nothing was read yet. At most
+    /// `most` bytes are read, or any number if it is `None`.
+    pub fn resume(
+        standing: Standing,
+        buffer: Buffer,
+        most: Option<usize>,
+        reader: &'r mut Counted<R>,
+    ) -> Feed<'r, R>
         ensures same { result.reader.ghost_name ≡ reader.entry.ghost_name }
         ensures reader { reader_of result ≡ reader.old }
         ensures place { place_of result ≡ resumed_at (stood_at standing) }
         ensures waiting { waits_in result ≡ ahead_of standing }
+        ensures given { given_of result ≡ given_before standing }
+        ensures most { result.backlog.most ≡ most }
     {
-        let (alloc, place, backlog) = standing.joined(room);
+        let parts = standing.joined(buffer);
+        let mut backlog = parts.backlog;
+        backlog.allow(most);
         Feed {
             reader,
-            alloc,
+            alloc: parts.alloc,
             backlog,
-            place: place.resumed(),
+            place: parts.place.resumed(),
+            given: parts.given,
         }
     }
 
     /// Returns where the feed stands and what it read ahead, for a later feed over the same reader, and the
-    /// room if no bytes wait in it. This feed is then over. `into_reader` gives its reader back.
-    pub fn set_aside(&mut self) -> (Standing, Option<Room>)
+    /// buffer if no bytes wait in it. This feed is then over. `into_reader` gives its reader back.
+    pub fn set_aside(&mut self) -> (Standing, Option<Buffer>)
         ensures same { SameReader self.old self.new }
         ensures reader { reader_of self.new ≡ reader_of self.old }
         ensures place { stood_at result.0 ≡ place_of self.old }
         ensures waiting { ahead_of result.0 ≡ waits_in self.old }
+        ensures given { given_before result.0 ≡ given_of self.old }
         ensures over { place_of self.new ≡ Place.Over }
         ensures left_none { waits_in self.new ≡ [] }
     {
         let place = self.place;
         self.place = Place::Over;
         let backlog = mem::replace(&mut self.backlog, Backlog::new(self.alloc));
-        Standing::parted(self.alloc, place, backlog)
+        let given = mem::replace(&mut self.given, Log::new());
+        Standing::parted(self.alloc, place, backlog, given)
     }
 
     /// Gives the reader back. Call it at the end: nothing is known of the reader of a feed that is only
@@ -163,12 +194,12 @@ impl<'r, R: Read> Feed<'r, R> {
 
     /// The next head, or what comes instead. The text of the head goes to the front of `text`, and its fields
     /// to the front of `fields`. Returns `End` if a body is open or the feed has ended. After anything but a
-    /// head the feed has ended.
+    /// head or `Waits` the feed has ended.
     ///
     /// # Errors
     ///
     /// `Read` if a read failed. `Memory` if memory was refused for the buffer, which is allocated in the
-    /// first call only. The feed has then ended.
+    /// first call only. `Waits` if no more bytes may be read now.
     pub fn next<'t>(
         &mut self,
         text: &'t mut [u8; MOST_HEAD],
@@ -180,7 +211,10 @@ impl<'r, R: Read> Feed<'r, R> {
             (R.remaining (reader_of self.new).inner) }
         ensures parts { OpensWith fields.new result }
         ensures count { CountsReads result (reader_of self.old).faults (reader_of self.new).faults }
+        ensures given { given_of self.new ≡ [] }
+        ensures free { StaysFree self.old.backlog self.new.backlog result }
     {
+        self.given = Log::new();
         match self.place {
             Place::Fresh => {
                 if self.backlog.make_room(self.alloc).is_err() {
@@ -197,7 +231,8 @@ impl<'r, R: Read> Feed<'r, R> {
         let found = find(&mut self.backlog, self.reader, text, fields);
         self.place = match found {
             Ok(Step::Head(opening)) => Place::Body(opening.length),
-            _ => Place::Over,
+            Ok(_) => Place::Over,
+            Err(fault) => Place::Between.after(fault),
         };
         found
     }
@@ -206,14 +241,16 @@ impl<'r, R: Read> Feed<'r, R> {
     ///
     /// # Errors
     ///
-    /// `Read` if a read failed. The feed has then ended.
+    /// `Read` if a read failed; the feed has then ended. `Waits` if no more bytes may be read now.
     pub fn piece(&mut self) -> Result<Piece<&[u8]>, WireFault>
         ensures* after { sem 𝓛
             (Rests (the_row (record { mir = named 1; lft = [] }) R.row) self.entry (λ new.
             SameReader self.old new
             × GivesPiece (place_of self.old) (left R.remaining self.old) (part result)
             (place_of new) (waits_in new) (R.remaining (reader_of new).inner)
-            × CountsReads result (reader_of self.old).faults (reader_of new).faults)) }
+            × CountsReads result (reader_of self.old).faults (reader_of new).faults
+            × GivesOn (given_of self.old) (part result) (given_of new)
+            × StaysFree self.old.backlog new.backlog result)) }
     {
         Ok(match self.go_on()? {
             Piece::Bytes(size) => Piece::Bytes(self.backlog.taken(size)),
@@ -230,11 +267,15 @@ impl<'r, R: Read> Feed<'r, R> {
             (R.remaining (reader_of self.new).inner) }
         ensures size { piece_size result ≤ self.new.backlog.start }
         ensures count { CountsReads result (reader_of self.old).faults (reader_of self.new).faults }
+        ensures given { GivesOn (given_of self.old) (taken_from self.new.backlog result) (given_of self.new) }
+        ensures free { StaysFree self.old.backlog self.new.backlog result }
     {
         let Place::Body(to_come) = self.place else {
+            self.given = Log::new();
             return Ok(Piece::Done);
         };
         if to_come == 0 {
+            self.given = Log::new();
             self.place = Place::Between;
             return Ok(Piece::Done);
         }
@@ -244,11 +285,12 @@ impl<'r, R: Read> Feed<'r, R> {
                 Ok(Piece::Refused(Refusal::BodyIncomplete))
             }
             Ok(size) => {
+                self.given = self.given.and(&self.backlog, &size);
                 self.place = Place::Body(to_come - size);
                 Ok(Piece::Bytes(size))
             }
             Err(fault) => {
-                self.place = Place::Over;
+                self.place = self.place.after(fault);
                 Err(fault)
             }
         }

@@ -1,7 +1,7 @@
 //! A reader whose bytes are read ahead, without waiting.
-ghost use Rattle.std.specs.Prelude.{◌≡◌, ◌≢◌, ◌↔◌, ◌⊎◌, ◌<◌, ◌≤◌, ◌+◌, ◌++◌, [], length, take, vec_capacity, vec_len, IfErr, IsErr, IsFalse, IsOk, IsTrue, None, OnOk, Some};
+ghost use Rattle.std.specs.Prelude.{◌≡◌, ◌≢◌, ◌↔◌, ◌⊎◌, ◌<◌, ◌≤◌, ◌+◌, ◌++◌, [], length, take, vec_capacity, vec_len, IfErr, IfOk, IsErr, IsFalse, IsOk, IsTrue, List, None, Some, ℕ};
 ghost use Rattle.std.specs.Io.{ReadsAtMost};
-ghost use Rattle.std.specs.Io.KnownBytes.{Keeps, ReadConsumes, prepend_known};
+ghost use Rattle.std.specs.Io.KnownBytes.{Consumes, IsAtEnd, Keeps, ReadConsumes, prepend_known};
 ghost use Rattle.std.specs.IoError.{error_kind};
 
 use crate::shifting::drop_front;
@@ -36,6 +36,49 @@ pub enum Gathering {
     Failed,
 }
 
+// Reads once into the buffer, from index `at` on. Returns how many bytes came.
+fn read_from<S: Read>(bytes: &mut [u8], at: usize, reader: &mut S) -> io::Result<usize>
+    requires { at ≤ length bytes.old }
+    ensures came { IfOk result (λ n. (came : List ℕ) × (length came ≡ n) × (at + n ≤ length bytes.new)
+        × (take (at + n) bytes.new ≡ take at bytes.old ++ came)
+        × Consumes (S.remaining reader.old) (S.remaining reader.new) came) }
+    ensures end { IfOk result (λ n. n ≡ 0 → at < length bytes.old → IsAtEnd (S.remaining reader.new)) }
+    ensures kept { IfErr result (λ e. (take at bytes.new ≡ take at bytes.old)
+        × Keeps (S.remaining reader.old) (S.remaining reader.new)) }
+{
+    match reader.read(&mut bytes[at..]) {
+        Ok(n) => Ok(n),
+        Err(error) => Err(error),
+    }
+}
+
+// Reads once, at most so many bytes, and appends those that came. There is memory for them. Returns how many
+// came.
+fn read_behind<S: Read>(bytes: &mut Vec<u8>, most: usize, reader: &mut S) -> io::Result<usize>
+    requires { vec_len bytes.old + most ≤ vec_capacity bytes.old }
+    ensures came { IfOk result (λ n. (came : List ℕ) × (length came ≡ n) × (n ≤ most)
+        × (bytes.new.items ≡ bytes.old.items ++ came)
+        × Consumes (S.remaining reader.old) (S.remaining reader.new) came) }
+    ensures end { IfOk result (λ n. n ≡ 0 → 0 < most → IsAtEnd (S.remaining reader.new)) }
+    ensures kept { IfErr result (λ e. (bytes.new.items ≡ bytes.old.items)
+        × Keeps (S.remaining reader.old) (S.remaining reader.new)) }
+{
+    let len = bytes.len();
+    if bytes.resize(len + most, 0).is_err() {
+        unreachable!();
+    }
+    match read_from(bytes, len, reader) {
+        Ok(n) => {
+            bytes.truncate(len + n);
+            Ok(n)
+        }
+        Err(error) => {
+            bytes.truncate(len);
+            Err(error)
+        }
+    }
+}
+
 impl<S: Read> Gathered<S> {
     ghost use Rattle.wire.specs.Gathering.{Gathers, HasFailed, HasRoomFor, KeepsFault, ahead_in};
 
@@ -61,33 +104,30 @@ impl<S: Read> Gathered<S> {
         &self.bytes[self.start..]
     }
 
-    /// Reads once, through the buffer, from a reader that does not wait, and keeps the bytes that came. After
-    /// a failed read it reads no more.
+    /// Reads once, at most so many bytes, from a reader that does not wait. The bytes that came go behind those
+    /// that are ahead. After a failed read it reads no more.
     ///
     /// # Errors
     ///
-    /// Memory was refused for as many bytes as `buf` has. Nothing was read then.
-    pub fn gather(&mut self, buf: &mut [u8]) -> Result<Gathering, AllocError>
+    /// Memory was refused for as many bytes as may come. Nothing was read then.
+    pub fn gather(&mut self, most: usize) -> Result<Gathering, AllocError>
         ensures gathers { Gathers S.remaining self.old self.new result }
-        ensures room { HasRoomFor (length buf.old) self.old → IsOk result }
+        ensures room { HasRoomFor most self.old → IsOk result }
         ensures failed { HasFailed self.old → HasFailed self.new }
-        ensures most { length (ahead_in self.new) ≤ length (ahead_in self.old) + length buf.old }
+        ensures most { length (ahead_in self.new) ≤ length (ahead_in self.old) + most }
     {
         if self.fault.is_some() {
             return Ok(Gathering::Failed);
         }
         self.move_to_front();
-        self.bytes.reserve(buf.len())?;
-        match self.inner.read(buf) {
-            Ok(0) => Ok(if buf.is_empty() {
+        self.bytes.reserve_exact(most)?;
+        match read_behind(&mut self.bytes, most, &mut self.inner) {
+            Ok(0) => Ok(if most == 0 {
                 Gathering::Waits
             } else {
                 Gathering::Ended
             }),
-            Ok(n) => {
-                self.bytes.extend_from_slice(&buf[..n])?;
-                Ok(Gathering::Came)
-            }
+            Ok(_) => Ok(Gathering::Came),
             Err(error) => {
                 if error.kind() == ErrorKind::WouldBlock {
                     return Ok(Gathering::Waits);
@@ -118,21 +158,6 @@ impl<S: Read> Gathered<S> {
         if self.fault.is_none() {
             self.fault = Some(error);
         }
-    }
-
-    /// Takes memory for n more bytes after those that were read ahead.
-    ///
-    /// # Errors
-    ///
-    /// Memory was refused.
-    pub fn make_room(&mut self, n: usize) -> Result<(), AllocError>
-        ensures room { OnOk result (HasRoomFor n self.new) }
-        ensures ahead { ahead_in self.new ≡ ahead_in self.old }
-        ensures inner { self.new.inner ≡ self.old.inner }
-        ensures fault { self.new.fault ≡ self.old.fault }
-    {
-        self.move_to_front();
-        self.bytes.reserve(n)
     }
 
     // Keeps the error of a failed read, unless the read would only wait. An earlier error stays.

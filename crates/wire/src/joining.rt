@@ -1,8 +1,9 @@
 //! Heads that are copied out of a feed, and bodies that are skipped.
-ghost use Rattle.std.specs.Prelude.{◌≡◌, ℕ, List, IfErr, IfOk, Ok};
+ghost use Rattle.std.specs.Prelude.{◌≡◌, ℕ, List, [], IfErr, IfOk, Ok};
 ghost use Rattle.wire.specs.Feeding.{CountsReads};
-ghost use Rattle.wire.specs.Feeds.{SameReader, left, place_of, reader_of};
-ghost use Rattle.wire.specs.Whole.{BreaksOff, BreaksOffBody, Brings, LacksBody, MayBegin, TakesBody};
+ghost use Rattle.wire.specs.Feeds.{SameReader, given_of, left, place_of, reader_of};
+ghost use Rattle.wire.specs.Waiting.{StaysFree};
+ghost use Rattle.wire.specs.Whole.{BreaksOff, BreaksOffBody, Brings, LacksBody, MayBegin, StandsIn, TakesBody};
 
 use crate::backlog::MOST_HEAD;
 use crate::fault::WireFault;
@@ -34,8 +35,8 @@ pub enum Ending {
 }
 
 /// Reads the head of a message. Its text goes to the front of `text`, and its fields to the front of
-/// `fields`. If a read failed, more bytes were needed to tell what comes. If memory was refused, it was for
-/// the feed's buffer, and nothing had been read.
+/// `fields`. If a read failed or no more bytes may be read now, more bytes were needed to tell what comes. If
+/// memory was refused, it was for the feed's buffer, and nothing had been read.
 pub fn read_opening<'t, R: Read>(
     feed: &mut Feed<'_, R>,
     text: &'t mut [u8; MOST_HEAD],
@@ -49,8 +50,10 @@ pub fn read_opening<'t, R: Read>(
         (R.remaining (reader_of feed.new).inner) (place_of feed.new)) }
     ensures fault { IfErr result
         (λ f. BreaksOff f (place_of feed.old) (left R.remaining feed.old)
-        (R.remaining (reader_of feed.new).inner)) }
+        (left R.remaining feed.new) (R.remaining (reader_of feed.new).inner) (place_of feed.new)) }
     ensures count { CountsReads result (reader_of feed.old).faults (reader_of feed.new).faults }
+    ensures given { given_of feed.new ≡ [] }
+    ensures free { StaysFree feed.old.backlog feed.new.backlog result }
 {
     match feed.next(text, fields) {
         Ok(Step::Head(opening)) => Ok(Came::Head(opening)),
@@ -61,16 +64,18 @@ pub fn read_opening<'t, R: Read>(
     }
 }
 
-/// Reads and discards the open body, which has `size` bytes to come. If a read failed, some of them had not
-/// come. Takes no memory.
+/// Reads and discards the open body of `size` bytes, of which some may have been given. If a read failed, some
+/// of them had not come. If no more bytes may be read now, the body is still open, and a later call goes on.
+/// Takes no memory.
 pub fn skip_body<R: Read>(feed: &mut Feed<'_, R>, size: usize) -> Result<Ending, WireFault>
-    requires { place_of feed.old ≡ Place.Body size }
+    requires { StandsIn size feed.old }
     ensures same { SameReader feed.old feed.new }
     ensures whole { result ≡ Ok Ending.Whole
         → (body : List ℕ) × TakesBody R.remaining size feed.old feed.new body }
     ensures lacking { result ≡ Ok Ending.Lacking → LacksBody R.remaining size feed.old feed.new }
     ensures fault { IfErr result (λ f. BreaksOffBody R.remaining size feed.old feed.new f) }
     ensures count { CountsReads result (reader_of feed.old).faults (reader_of feed.new).faults }
+    ensures free { StaysFree feed.old.backlog feed.new.backlog result }
 {
     'pieces: loop {
         match feed.piece() {

@@ -17,12 +17,14 @@ pub mod gathered;
 pub mod head;
 pub mod joining;
 pub mod outbox;
+mod rereading;
 mod seat;
 pub mod sending;
 mod session;
 mod shifting;
 mod slots;
 pub mod standing;
+mod underway;
 
 pub use answer::{Answer, Reply, put_answer};
 pub use backlog::MOST_HEAD;
@@ -36,11 +38,10 @@ pub use gathered::{Gathered, Gathering};
 pub use head::{Head, MOST_FIELDS, Message, NO_FIELD, head_end, read_head};
 pub use joining::{Came, Ending, read_opening, skip_body};
 pub use outbox::{Outbox, Sending};
+pub use rereading::reread;
 pub use seat::Seat;
 pub use sending::send;
 pub use session::SessionEnd;
-pub use slots::{
-    fail_slot, first_free, free_slot, gather_slot, make_room_in_slot, open_slot, send_slot,
-    settle_slot,
-};
-pub use standing::{Room, Standing};
+pub use slots::{fail_slot, first_free, free_slot, gather_slot, open_slot, send_slot, settle_slot};
+pub use standing::{Buffer, HeadBlock, Spare, Standing};
+pub use underway::{Kept, Underway};

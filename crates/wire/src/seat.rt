@@ -1,11 +1,17 @@
 //! A connection among others. Its feed is set aside between its turns.
-ghost use Rattle.std.specs.Prelude.{◌≡◌, ◌≤◌, [], IsTrue, None};
-ghost use Rattle.wire.specs.Feeds.{stood_at};
+ghost use Rattle.std.specs.Prelude.{◌≡◌, ◌≤◌, ◌-◌, [], IfSome, IsTrue, None, length, option_map};
+ghost use Rattle.std.specs.Option.{ForSome};
+ghost use Rattle.wire.specs.Feeds.{given_before, stood_at};
 ghost use Rattle.wire.specs.declared.feed.Place.TheVariants as stands;
 ghost use Rattle.wire.specs.Begins.{may_begin};
+ghost use Rattle.wire.specs.Underways.{IsUnderway};
 
+use crate::feed::Place;
 use crate::session::SessionEnd;
-use crate::{Counted, Gathered, Gathering, Outbox, Room, Sending, Standing};
+use crate::standing::Buffer;
+use crate::underway::Underway;
+use crate::{Counted, Gathered, Gathering, Outbox, Sending, Standing};
+use http_server::Log;
 use std::alloc::{AllocError, Global};
 use std::io;
 use std::io::{Read, Write};
@@ -19,12 +25,18 @@ pub struct Seat<R, W> {
     pub writer: Counted<W>,
     /// Its feed, set aside.
     pub standing: Standing,
+    /// The message whose body has not come whole, if there is one.
+    pub underway: Option<Underway>,
+    /// A mark for each turn in which no message was answered and the connection went on.
+    pub waited: Log<u64, u64>,
     /// The number of its messages that were served, at most 1000.
     pub served: u64,
     /// How it ended, if it did.
     pub end: Option<SessionEnd>,
     ghost few: { served ≤ 1000 },
-    ghost begins: { end ≡ None → IsTrue (may_begin (stood_at standing)) },
+    ghost begins: { end ≡ None → underway ≡ None → IsTrue (may_begin (stood_at standing)) },
+    ghost forgot: { end ≡ None → underway ≡ None → given_before standing ≡ [] },
+    ghost goes_on: { ForSome underway (λ u. IsUnderway u standing) },
     ghost fresh: { end ≡ None → stood_at standing ≡ stands.Fresh → served ≡ 0 },
 }
 
@@ -44,6 +56,8 @@ impl<R, W> Seat<R, W> {
             reader: Counted::new(reader),
             writer: Counted::new(writer),
             standing: Standing::new(alloc),
+            underway: None,
+            waited: Log::new(),
             served: 0,
             end: None,
         }
@@ -63,6 +77,33 @@ impl<R, W> Seat<R, W> {
         self.served
     }
 
+    /// How many bytes of the body of the message under way are still to come, if one is.
+    pub fn to_come(&self) -> Option<usize>
+        ensures { result ≡ option_map (λ u. u.size - length (given_before self.now.standing)) self.now.underway }
+    {
+        let Some(_) = &self.underway else {
+            return None;
+        };
+        match self.standing.place() {
+            Place::Body(left) => Some(left),
+            _ => unreachable!(),
+        }
+    }
+
+    /// The bytes of the body of the message under way that are kept, if it is one to be kept.
+    pub fn kept(&self) -> Option<&[u8]>
+        ensures bytes { IfSome result (λ bytes. bytes.now ≡ given_before self.now.standing) }
+        ensures none { result ≡ None → ForSome self.now.underway (λ u. u.kept ≡ None) }
+    {
+        let Some(underway) = &self.underway else {
+            return None;
+        };
+        match &underway.kept {
+            Some(kept) => Some(&kept.bytes),
+            None => None,
+        }
+    }
+
     /// The bytes that the feed read and did not take, while they wait in a buffer of its own.
     pub fn ahead(&self) -> &[u8]
         ensures { result.now ≡ ahead_of self.now.standing }
@@ -72,33 +113,22 @@ impl<R, W> Seat<R, W> {
 }
 
 impl<S: Read, W> Seat<Gathered<S>, W> {
-    ghost use Rattle.std.specs.Prelude.{◌+◌, ◌++◌, length, IsOk, IsSome, OnOk};
+    ghost use Rattle.std.specs.Prelude.{◌+◌, ◌++◌, IsOk, IsSome};
     ghost use Rattle.wire.specs.Gathering.{Gathers as ReadsAhead, HasFailed, HasRoomFor, KeepsFault, ahead_in};
     ghost use Rattle.wire.specs.Feeds.{ahead_of};
     ghost use Rattle.wire.specs.Seats.{Gathers};
 
-    /// Reads ahead once, through the buffer, without waiting. The error means that memory was refused;
-    /// nothing was read then.
-    pub fn gather(&mut self, buf: &mut [u8]) -> Result<Gathering, AllocError>
+    /// Reads ahead once, at most so many bytes, without waiting. The error means that memory was refused; nothing
+    /// was read then.
+    pub fn gather(&mut self, most: usize) -> Result<Gathering, AllocError>
         ensures gathers { Gathers ⟦<Gathered<S> as Read>⟧.remaining self.old self.new }
         ensures standing { self.new.standing ≡ self.old.standing }
         ensures told { ReadsAhead S.remaining self.old.reader.inner self.new.reader.inner result }
         ensures most { length (ahead_in self.new.reader.inner)
-            ≤ length (ahead_in self.old.reader.inner) + length buf.old }
-        ensures room { HasRoomFor (length buf.old) self.old.reader.inner → IsOk result }
+            ≤ length (ahead_in self.old.reader.inner) + most }
+        ensures room { HasRoomFor most self.old.reader.inner → IsOk result }
     {
-        self.reader.inner.gather(buf)
-    }
-
-    /// Takes memory to read n more bytes ahead. The error means that memory was refused.
-    pub fn make_room(&mut self, n: usize) -> Result<(), AllocError>
-        ensures gathers { Gathers ⟦<Gathered<S> as Read>⟧.remaining self.old self.new }
-        ensures standing { self.new.standing ≡ self.old.standing }
-        ensures ahead { ahead_in self.new.reader.inner ≡ ahead_in self.old.reader.inner }
-        ensures room { OnOk result (HasRoomFor n self.new.reader.inner) }
-        ensures fault { KeepsFault self.old.reader.inner self.new.reader.inner }
-    {
-        self.reader.inner.make_room(n)
+        self.reader.inner.gather(most)
     }
 
     /// Makes each read fail with this error, once the bytes that were read ahead are given. An earlier error
@@ -116,7 +146,7 @@ impl<S: Read, W> Seat<Gathered<S>, W> {
 
     /// Returns the bytes that the feed read and did not take to those that were read ahead, if they came from
     /// there, and returns the buffer. Frees the memory if no bytes are ahead then.
-    pub fn give_back(&mut self) -> Option<Room>
+    pub fn give_back(&mut self) -> Option<Buffer>
         ensures gathers { Gathers ⟦<Gathered<S> as Read>⟧.remaining self.old self.new }
         ensures kept { ahead_of self.new.standing ++ ahead_in self.new.reader.inner
             ≡ ahead_of self.old.standing ++ ahead_in self.old.reader.inner }

@@ -1,11 +1,12 @@
 //! The slots of connections that come and go, and what may be done to them between two turns.
 ghost use Rattle.std.specs.Prelude.{◌≡◌, ◌<◌, ◌∷◌, [], length, slice_set, IfErr, IfNone, IfOk, IfSome, IsNone, IsOk, None, Ok, Some, ⊤};
 ghost use Rattle.wire.specs.Crowds.{Changes, DoneAt, NoneIsFree, SentAt, slot_at, those_of};
-ghost use Rattle.wire.specs.Slots.{Fails, MakesRoom, PutsBack, ReadsAhead, SendsOn};
+ghost use Rattle.wire.specs.Slots.{Fails, PutsBack, ReadsAhead, SendsOn};
 ghost use Rattle.wire.specs.Seats.{IsNew};
 
 use crate::seat::Seat;
-use crate::{Gathered, Gathering, Outbox, Room, Sending};
+use crate::standing::Buffer;
+use crate::{Gathered, Gathering, Outbox, Sending};
 use std::alloc::AllocError;
 use std::io;
 use std::io::{Read, Write};
@@ -59,21 +60,21 @@ pub fn free_slot<R: Read, W: Write>(
     slots[index].take()
 }
 
-/// Reads ahead once, through the buffer, for the connection in the slot, without waiting. If there is none,
-/// or it has ended, nothing is read and the result is `Ended`. The error means that memory was refused;
-/// nothing was read then.
+/// Reads ahead once, at most so many bytes, for the connection in the slot, without waiting. If there is none,
+/// or it has ended, nothing is read and the result is `Ended`. The error means that memory was refused; nothing
+/// was read then.
 pub fn gather_slot<S: Read, W: Write>(
     slots: &mut [Option<Seat<Gathered<S>, W>>],
     index: usize,
-    buf: &mut [u8],
+    most: usize,
 ) -> Result<Gathering, AllocError>
     requires { index < length slots.old }
     ensures changes { Changes ⟦<Gathered<S> as Read>⟧.remaining W.contents slots.old slots.new [] [] }
-    ensures done { DoneAt ⟦<Gathered<S> as Read>⟧.remaining (λ a b. ReadsAhead S.remaining (length buf.old) a b result)
+    ensures done { DoneAt ⟦<Gathered<S> as Read>⟧.remaining (λ a b. ReadsAhead S.remaining most a b result)
         (result ≡ Ok Gathering.Ended) slots.old slots.new index }
 {
     match &mut slots[index] {
-        Some(seat) if seat.end().is_none() => seat.gather(buf),
+        Some(seat) if seat.end().is_none() => seat.gather(most),
         _ => Ok(Gathering::Ended),
     }
 }
@@ -84,7 +85,7 @@ pub fn gather_slot<S: Read, W: Write>(
 pub fn settle_slot<S: Read, W: Write>(
     slots: &mut [Option<Seat<Gathered<S>, W>>],
     index: usize,
-) -> Option<Room>
+) -> Option<Buffer>
     requires { index < length slots.old }
     ensures changes { Changes ⟦<Gathered<S> as Read>⟧.remaining W.contents slots.old slots.new [] [] }
     ensures done { DoneAt ⟦<Gathered<S> as Read>⟧.remaining (λ a b. PutsBack a b result)
@@ -93,24 +94,6 @@ pub fn settle_slot<S: Read, W: Write>(
     match &mut slots[index] {
         Some(seat) if seat.end().is_none() => seat.give_back(),
         _ => None,
-    }
-}
-
-/// Takes memory to read n more bytes ahead for the connection in the slot. The error means that memory was
-/// refused. If there is no connection, or it has ended, no memory is taken and there is no error.
-pub fn make_room_in_slot<S: Read, W: Write>(
-    slots: &mut [Option<Seat<Gathered<S>, W>>],
-    index: usize,
-    n: usize,
-) -> Result<(), AllocError>
-    requires { index < length slots.old }
-    ensures changes { Changes ⟦<Gathered<S> as Read>⟧.remaining W.contents slots.old slots.new [] [] }
-    ensures done { DoneAt ⟦<Gathered<S> as Read>⟧.remaining (λ a b. MakesRoom n a b result)
-        (IsOk result) slots.old slots.new index }
-{
-    match &mut slots[index] {
-        Some(seat) if seat.end().is_none() => seat.make_room(n),
-        _ => Ok(()),
     }
 }
 

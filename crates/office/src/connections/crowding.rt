@@ -6,12 +6,12 @@ use crate::clocks::Clock;
 use crate::office::Office;
 use boxes::Keeper;
 use std::io::{Read, Write};
-use wire::{Crowd, Room, Seat, SessionEnd};
+use wire::{Crowd, Due, Seat, SessionEnd, Spare};
 
 // What a turn returns besides the slot.
 #[derive(Drop)]
 struct Turned {
-    spare: Option<Room>,
+    spare: Spare,
     is_fault: bool,
 }
 
@@ -36,7 +36,7 @@ impl<K: Keeper> Office<K> {
     fn turn_slot<R: Read, W: Write, C: Clock>(
         &mut self,
         slot: &mut Option<Seat<R, W>>,
-        room: Room,
+        due: Due,
         clock: &mut C,
     ) -> Turned
         ensures turns { (s : State) → WasKept K.Keeper self.old.keeper self.new.keeper s
@@ -49,38 +49,37 @@ impl<K: Keeper> Office<K> {
     {
         let Some(seat) = slot else {
             return Turned {
-                spare: Some(room),
+                spare: due.spare(),
                 is_fault: false,
             };
         };
         let was_open = seat.end().is_none();
-        let spare = self.take_turn(seat, room, clock);
+        let spare = self.take_turn(seat, due, clock);
         Turned {
             spare,
             is_fault: was_open && has_failed(seat.end()),
         }
     }
 
-    // Gives the connection at this index a turn, if there is one.
+    // Gives the connection of the slot that is due its turn, if there is one.
     fn turn_at<R: Read, W: Write, C: Clock>(
         &mut self,
         slots: &mut [Option<Seat<R, W>>],
-        index: usize,
-        room: Room,
+        due: Due,
         clock: &mut C,
     ) -> Turned
-        requires { index < length slots.old }
+        requires { due.index < length slots.old }
         ensures turns { (s : State) → WasKept K.Keeper self.old.keeper self.new.keeper s
             → (after : State) × IsLeft (K.means self.new.keeper) after
-            × (now : Option (Seat R W)) × (slots.new ≡ slice_set slots.old index now)
+            × (now : Option (Seat R W)) × (slots.new ≡ slice_set slots.old due.index now)
             × TurnsSlot C.now_gives R.remaining W.contents clock.old clock.new
-            K.Keeper self.old.keeper self.new.keeper s after (slot_at slots.old index) now result.is_fault }
-        ensures slot { (now : Option (Seat R W)) × (slots.new ≡ slice_set slots.old index now) }
+            K.Keeper self.old.keeper self.new.keeper s after (slot_at slots.old due.index) now result.is_fault }
+        ensures slot { (now : Option (Seat R W)) × (slots.new ≡ slice_set slots.old due.index now) }
         ensures honest { K.is_honest self.new.keeper → K.is_honest self.old.keeper }
         ensures unstaged { StaysUnstaged K.Keeper self.old.keeper self.new.keeper }
         ensures never_less { K.faults self.old.keeper ≤ K.faults self.new.keeper }
     {
-        self.turn_slot(&mut slots[index], room, clock)
+        self.turn_slot(&mut slots[due.index], due, clock)
     }
 
     /// Serves connections that come and go, each in the turns that the crowd gives it, until no more turns
@@ -97,9 +96,9 @@ impl<K: Keeper> Office<K> {
     /// done at its moment.
     ///
     /// Exactly the turns that the crowd gives are taken, in order, each by its own connection. Each tells at
-    /// most one moment. The turn in which a connection ends answers no message in full. A connection gives up
-    /// only within a message that has begun. The connections that came, as they were last, are exactly those
-    /// that went and those in the slots.
+    /// most one moment. One that only reads on tells none and answers nothing. The turn in which a connection
+    /// ends answers no message in full. A connection gives up only within a message that has begun. The
+    /// connections that came, as they were last, are exactly those that went and those in the slots.
     pub fn serve_crowd<R: Read, W: Write, G: Crowd<R, W>, C: Clock>(
         &mut self,
         crowd: &mut G,
@@ -121,10 +120,10 @@ impl<K: Keeper> Office<K> {
         ensures unstaged { StaysUnstaged K.Keeper self.old.keeper self.new.keeper }
         ensures never_less { K.faults self.old.keeper ≤ K.faults self.new.keeper }
     {
-        let mut spare = None;
+        let mut spare = Spare::none();
         let mut faulty = 0;
         'turns: while let Some(due) = crowd.next(slots, spare) {
-            let turned = self.turn_at(slots, due.index, due.room, clock);
+            let turned = self.turn_at(slots, due, clock);
             faulty += if turned.is_fault { 1 } else { 0 };
             spare = turned.spare;
         }

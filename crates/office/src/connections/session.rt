@@ -1,9 +1,10 @@
 //! One connection: its messages are read and answered in order.
+use super::stepping::Stepped;
 use crate::clocks::Clock;
 use crate::office::Office;
 use boxes::Keeper;
 use std::io::{Read, Write};
-use wire::{Counted, Feed, SessionEnd};
+use wire::{Counted, Feed, MOST_HEAD, SessionEnd};
 
 /// The greatest number of messages on one connection.
 const MOST_MESSAGES: usize = 1000;
@@ -11,6 +12,7 @@ const MOST_MESSAGES: usize = 1000;
 impl<K: Keeper> Office<K> {
     ghost use Rattle.boxes.specs.State.{State};
     ghost use Rattle.wire.specs.Feeds.{SameReader, left, place_of, reader_of};
+    ghost use Rattle.wire.specs.Waiting.{IsFree};
     ghost use Rattle.wire.specs.Whole.{MayBegin};
     ghost use Rattle.office.specs.Connections.{MayGiveUp, Serves, TellsFaults};
     ghost use Rattle.office.specs.Premise.{HoldsUnless, IsLeft, StaysUnstaged, WasKept};
@@ -23,7 +25,8 @@ impl<K: Keeper> Office<K> {
         writer: &mut Counted<W>,
         clock: &mut C,
     ) -> SessionEnd
-        requires { MayBegin (place_of feed.old) }
+        requires begins { MayBegin (place_of feed.old) }
+        requires free { IsFree feed.old.backlog }
         ensures same { SameReader feed.old feed.new }
         ensures serves { (s : State) → WasKept K.Keeper self.old.keeper self.new.keeper s
             → (after : State) × IsLeft (K.means self.new.keeper) after
@@ -36,10 +39,12 @@ impl<K: Keeper> Office<K> {
         ensures unstaged { StaysUnstaged K.Keeper self.old.keeper self.new.keeper }
         ensures rest { HoldsUnless K.Keeper self.old.keeper self.new.keeper (MayGiveUp K.Keeper self.old.keeper self.new.keeper result) }
     {
+        let mut block = [0; MOST_HEAD];
         'messages: for _ in 0..MOST_MESSAGES {
-            match self.step(feed, writer, clock) {
-                None => {}
-                Some(end) => return end,
+            match self.step(feed, &mut block, writer, clock) {
+                Stepped::Done(None) => {}
+                Stepped::Done(Some(end)) => return end,
+                Stepped::Waits(_) => unreachable!(),
             }
         }
         SessionEnd::Limit

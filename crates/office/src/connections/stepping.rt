@@ -8,19 +8,40 @@ use super::handling::{Handled, send_answer};
 use super::receiving::Received;
 use crate::clocks::Clock;
 use crate::office::Office;
-use crate::requests::announced::Announced;
+use crate::requests::announced::announce_head;
 use crate::requests::answering::asks_head;
 use crate::requests::foreseeing::{Body, Prospect, is_given_up, is_upload};
 use boxes::Keeper;
 use sigtext::{Field, Refusal};
+use sigv4::Sha;
 use std::io::{Read, Write};
 use wire::{
-    Answer, Came, Counted, Feed, MOST_FIELDS, MOST_HEAD, NO_FIELD, Opening, SessionEnd, WireFault,
-    put_answer, read_opening,
+    Answer, Came, Counted, Feed, Kept, MOST_FIELDS, MOST_HEAD, NO_FIELD, Opening, SessionEnd,
+    WireFault, put_answer, read_opening,
 };
 
+/// A message whose head was read, and whose body has not come whole.
+#[derive(Drop)]
+pub(crate) struct Begun {
+    /// The length of the head in bytes.
+    pub(crate) len: usize,
+    /// The length of the body in bytes.
+    pub(crate) size: usize,
+    /// What came of the body, if it is kept.
+    pub(crate) kept: Option<Kept>,
+}
+
+/// What a step came to.
+#[derive(Drop)]
+pub(crate) enum Stepped {
+    /// A message was answered, or the session ended like this.
+    Done(Option<SessionEnd>),
+    /// No more bytes may be read now. A message may have begun.
+    Waits(Option<Begun>),
+}
+
 // Writes the answer of a refusal that closes the connection. Returns how the session ends.
-fn close<W: Write>(refusal: Refusal, writer: &mut Counted<W>) -> SessionEnd
+pub(crate) fn close<W: Write>(refusal: Refusal, writer: &mut Counted<W>) -> SessionEnd
     ensures closed { IsClosed (W.contents writer.old.inner) (W.contents writer.new.inner) refusal result }
     ensures fault { result ≡ SessionEnd.WriteFault → Rose writer.old.faults writer.new.faults }
     ensures clean { (result ≢ SessionEnd.WriteFault) → writer.new.faults ≡ writer.old.faults }
@@ -33,7 +54,7 @@ fn close<W: Write>(refusal: Refusal, writer: &mut Counted<W>) -> SessionEnd
 }
 
 // How the session ends after a message that ended like this, if it ends.
-fn end_of(handled: Handled) -> Option<SessionEnd>
+pub(crate) fn end_of(handled: Handled) -> Option<SessionEnd>
     ensures { result ≡ end_of handled }
 {
     match handled {
@@ -44,11 +65,14 @@ fn end_of(handled: Handled) -> Option<SessionEnd>
 }
 
 impl<K: Keeper> Office<K> {
-    ghost use Rattle.std.specs.Prelude.{◌≡◌, ◌≢◌, ◌⊎◌, ℕ, List, [], length, Err, IfNone, IsSomeAnd, IsTrue, Option};
+    ghost use Rattle.std.specs.Prelude.{◌≡◌, ◌≢◌, ◌⊎◌, ◌≤◌, ℕ, Bool, List, [], length, Err, IsTrue, Option};
     ghost use Rattle.sigtext.specs.Counts.{Rose};
+    ghost use Rattle.sigtext.specs.Readable.{IsReadable};
     ghost use Rattle.sigtext.specs.Request.{Request};
     ghost use Rattle.boxes.specs.State.{State};
-    ghost use Rattle.wire.specs.Feeds.{SameReader, left, place_of, reader_of};
+    ghost use Rattle.wire.specs.Feeding.{Opens};
+    ghost use Rattle.wire.specs.Feeds.{SameReader, given_of, left, place_of, reader_of};
+    ghost use Rattle.wire.specs.Framing.{request_of};
     ghost use Rattle.wire.specs.Openings.{ArePartsOf};
     ghost use Rattle.wire.specs.Whole.{IsOpening, MayBegin};
     ghost use Rattle.wire.specs.declared.feed.Place.{Place};
@@ -59,10 +83,10 @@ impl<K: Keeper> Office<K> {
     ghost use Rattle.office.specs.Frames.{Quiet};
     ghost use Rattle.office.specs.Handling.{Handles, MayBeGivenUp};
     ghost use Rattle.office.specs.Premise.{EndsUnstaged, HoldsUnless, StaysUnstaged, WasKept};
-    ghost use Rattle.office.specs.Stepping.{IsExpected, LeavesOff, Steps, TellsStep};
+    ghost use Rattle.office.specs.Stepping.{GoesOn, HasHeadOf, IsExpected, LeavesOff, MayHaveGivenUp, NeverStandsBy, StepsTo, TellsStepped, WaitsBehind};
 
     // Handles a message whose body came: takes its moment and writes its answer.
-    fn serve_message<W: Write, C: Clock>(
+    pub(crate) fn serve_message<W: Write, C: Clock>(
         &mut self,
         foreseen: Result<Prospect<'_>, Refusal>,
         body: &Body,
@@ -107,131 +131,157 @@ impl<K: Keeper> Office<K> {
     }
 
     // Reads the body of a message and answers the message, using what was foreseen of it. Or tells how the
-    // session ended.
+    // session ended. The head has `len` bytes.
     fn serve_body<R: Read, W: Write, C: Clock>(
         &mut self,
         feed: &mut Feed<'_, R>,
         foreseen: Result<Prospect<'_>, Refusal>,
         to_head: bool,
+        len: usize,
         size: usize,
         writer: &mut Counted<W>,
         clock: &mut C,
-    ) -> Option<SessionEnd>
-        requires { place_of feed.old ≡ stands.Body size }
+    ) -> Stepped
+        requires open { place_of feed.old ≡ stands.Body size }
+        requires none { given_of feed.old ≡ [] }
         ensures same { SameReader feed.old feed.new }
-        ensures goes_on { IfNone result (place_of feed.new ≡ stands.Between) }
-        ensures steps { (s : State) (p : Place) (known : Option (List ℕ))
+        ensures goes_on { GoesOn result feed.new }
+        ensures steps { (s : State) (p : Place) (known : Option (List ℕ)) (head : List ℕ)
             → WasKept K.Keeper self.old.keeper self.new.keeper s
-            → IsExpected s size known (left R.remaining feed.old) foreseen.entry to_head
-            → Steps C.now_gives p known (left R.remaining feed.new)
-            (R.remaining (reader_of feed.new).inner)
-            (W.contents writer.old.inner) (W.contents writer.new.inner) clock.old clock.new
-            K.Keeper self.old.keeper self.new.keeper s result }
-        ensures faults { TellsStep result
+            → IsExpected s size known (left R.remaining feed.old) foreseen.entry to_head head
+            → len ≡ length head
+            → StepsTo C.now_gives p known R.remaining feed.new
+            writer.old writer.new W.contents clock.old clock.new
+            K.Keeper self.old.keeper self.new.keeper s head result }
+        ensures faults { TellsStepped result
             (reader_of feed.old) (reader_of feed.new) writer.old writer.new }
         ensures unstaged { StaysUnstaged K.Keeper self.old.keeper self.new.keeper }
         ensures rest { HoldsUnless K.Keeper self.old.keeper self.new.keeper
-            (IsSomeAnd result (MayGiveUp K.Keeper self.old.keeper self.new.keeper)) }
+            (MayHaveGivenUp K.Keeper self.old.keeper self.new.keeper result) }
+        ensures free { NeverStandsBy feed.old.backlog feed.new.backlog result }
+        ensures long { HasHeadOf len result }
+        ensures stands { (head : List ℕ) (has_length : Bool) (o : Opens head has_length size)
+            → (IsUpload foreseen.entry → IsReadable (request_of o.head has_length []))
+            → len ≡ length head → WaitsBehind feed.new head result }
     {
         let upload = is_upload(&foreseen);
-        match self.receive(feed, size, upload) {
+        let mut sha = Sha::new();
+        if self.begin_staging(upload).is_err() {
+            drop(foreseen);
+            let _ = self.drop_staged(upload);
+            return Stepped::Done(Some(close(Refusal::TryAgain, writer)));
+        }
+        match self.receive(feed, size, upload, &mut sha) {
             Received::Whole(digest) => {
                 let body = Body {
                     length: size as u64,
                     digest,
                 };
-                end_of(self.serve_message(foreseen, &body, to_head, writer, clock))
+                let handled = self.serve_message(foreseen, &body, to_head, writer, clock);
+                Stepped::Done(end_of(handled))
             }
             Received::Lacking => {
                 drop(foreseen);
-                Some(self.close_lacking(upload, writer))
+                Stepped::Done(Some(self.close_lacking(upload, writer)))
             }
             Received::Broken => {
                 drop(foreseen);
                 let _ = self.drop_staged(upload);
-                Some(SessionEnd::ReadFault)
+                Stepped::Done(Some(SessionEnd::ReadFault))
             }
             Received::GaveUp => {
                 drop(foreseen);
                 let _ = self.drop_staged(upload);
-                Some(close(Refusal::TryAgain, writer))
+                Stepped::Done(Some(close(Refusal::TryAgain, writer)))
+            }
+            Received::Waits => {
+                drop(foreseen);
+                let kept = self.keep(upload, sha);
+                Stepped::Waits(Some(Begun { len, size, kept }))
             }
         }
     }
 
-    // Serves the message whose head was read.
+    // Serves the message whose head was read. The head goes to the front of the block.
     fn serve_head<R: Read, W: Write, C: Clock>(
         &mut self,
         feed: &mut Feed<'_, R>,
         opening: &Opening<'_>,
         fields: &[Field<'_>; MOST_FIELDS],
+        block: &mut [u8; MOST_HEAD],
         writer: &mut Counted<W>,
         clock: &mut C,
-    ) -> Option<SessionEnd>
+    ) -> Stepped
         requires open { place_of feed.old ≡ stands.Body opening.now.length }
+        requires none { given_of feed.old ≡ [] }
+        requires short { length opening.now.text.now ≤ MOST_HEAD }
         requires parts { ArePartsOf opening.now.text.now opening.now.head fields.now }
         ensures same { SameReader feed.old feed.new }
-        ensures goes_on { IfNone result (place_of feed.new ≡ stands.Between) }
+        ensures goes_on { GoesOn result feed.new }
         ensures steps { (s : State) (p : Place) (known : Option (List ℕ))
             → WasKept K.Keeper self.old.keeper self.new.keeper s
             → IsOpening opening.now.text.now opening.now.has_length opening.now.length
             known (left R.remaining feed.old)
-            → Steps C.now_gives p known (left R.remaining feed.new)
-            (R.remaining (reader_of feed.new).inner)
-            (W.contents writer.old.inner) (W.contents writer.new.inner) clock.old clock.new
-            K.Keeper self.old.keeper self.new.keeper s result }
-        ensures faults { TellsStep result
+            → StepsTo C.now_gives p known R.remaining feed.new
+            writer.old writer.new W.contents clock.old clock.new
+            K.Keeper self.old.keeper self.new.keeper s block.new result }
+        ensures faults { TellsStepped result
             (reader_of feed.old) (reader_of feed.new) writer.old writer.new }
         ensures unstaged { StaysUnstaged K.Keeper self.old.keeper self.new.keeper }
         ensures rest { HoldsUnless K.Keeper self.old.keeper self.new.keeper
-            (IsSomeAnd result (MayGiveUp K.Keeper self.old.keeper self.new.keeper)) }
+            (MayHaveGivenUp K.Keeper self.old.keeper self.new.keeper result) }
+        ensures free { NeverStandsBy feed.old.backlog feed.new.backlog result }
+        ensures stands { Opens opening.now.text.now opening.now.has_length opening.now.length
+            → WaitsBehind feed.new block.new result }
     {
-        let message = Announced {
-            method: opening.head.method,
-            target: opening.head.target,
-            fields: &fields[..opening.head.count],
-            has_length: opening.has_length,
-            length: opening.length,
-        };
+        let message = announce_head(opening, fields);
         let foreseen = self.foresee(&message);
         if is_given_up(&foreseen) {
             drop(foreseen);
-            return Some(close(Refusal::TryAgain, writer));
+            return Stepped::Done(Some(close(Refusal::TryAgain, writer)));
         }
         let to_head = asks_head(&message);
-        self.serve_body(feed, foreseen, to_head, opening.length, writer, clock)
+        let len = opening.text.len();
+        block[..len].copy_from_slice(opening.text);
+        self.serve_body(feed, foreseen, to_head, len, opening.length, writer, clock)
     }
 
-    // Reads the next message of a feed and answers it. Or tells how the session ended.
+    // Reads the next message of a feed and answers it. Or tells how the session ended. The head goes to the
+    // front of the block.
     pub(crate) fn step<R: Read, W: Write, C: Clock>(
         &mut self,
         feed: &mut Feed<'_, R>,
+        block: &mut [u8; MOST_HEAD],
         writer: &mut Counted<W>,
         clock: &mut C,
-    ) -> Option<SessionEnd>
+    ) -> Stepped
         requires { MayBegin (place_of feed.old) }
         ensures same { SameReader feed.old feed.new }
-        ensures goes_on { IfNone result (place_of feed.new ≡ stands.Between) }
+        ensures goes_on { GoesOn result feed.new }
         ensures steps { (s : State) → WasKept K.Keeper self.old.keeper self.new.keeper s
-            → Steps C.now_gives (place_of feed.old)
-            (left R.remaining feed.old) (left R.remaining feed.new) (R.remaining (reader_of feed.new).inner)
-            (W.contents writer.old.inner) (W.contents writer.new.inner) clock.old clock.new
-            K.Keeper self.old.keeper self.new.keeper s result }
-        ensures faults { TellsStep result
+            → StepsTo C.now_gives (place_of feed.old) (left R.remaining feed.old) R.remaining feed.new
+            writer.old writer.new W.contents clock.old clock.new
+            K.Keeper self.old.keeper self.new.keeper s block.new result }
+        ensures faults { TellsStepped result
             (reader_of feed.old) (reader_of feed.new) writer.old writer.new }
         ensures unstaged { StaysUnstaged K.Keeper self.old.keeper self.new.keeper }
         ensures rest { HoldsUnless K.Keeper self.old.keeper self.new.keeper
-            (IsSomeAnd result (MayGiveUp K.Keeper self.old.keeper self.new.keeper)) }
+            (MayHaveGivenUp K.Keeper self.old.keeper self.new.keeper result) }
+        ensures free { NeverStandsBy feed.old.backlog feed.new.backlog result }
+        ensures stands { WaitsBehind feed.new block.new result }
     {
         let mut text = [0; MOST_HEAD];
         let mut fields = [NO_FIELD; MOST_FIELDS];
         match read_opening(feed, &mut text, &mut fields) {
-            Ok(Came::Head(opening)) => self.serve_head(feed, &opening, &fields, writer, clock),
-            Ok(Came::Refused(refusal)) => Some(close(refusal, writer)),
-            Ok(Came::End) => Some(SessionEnd::Ended),
-            Ok(Came::Truncated) => Some(SessionEnd::Truncated),
-            Err(WireFault::Read) => Some(SessionEnd::ReadFault),
-            Err(WireFault::Memory) => Some(close(Refusal::TryAgain, writer)),
+            Ok(Came::Head(opening)) => {
+                self.serve_head(feed, &opening, &fields, block, writer, clock)
+            }
+            Ok(Came::Refused(refusal)) => Stepped::Done(Some(close(refusal, writer))),
+            Ok(Came::End) => Stepped::Done(Some(SessionEnd::Ended)),
+            Ok(Came::Truncated) => Stepped::Done(Some(SessionEnd::Truncated)),
+            Err(WireFault::Waits) => Stepped::Waits(None),
+            Err(WireFault::Read) => Stepped::Done(Some(SessionEnd::ReadFault)),
+            Err(WireFault::Memory) => Stepped::Done(Some(close(Refusal::TryAgain, writer))),
             Err(WireFault::Write) => unreachable!(),
         }
     }

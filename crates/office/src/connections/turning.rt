@@ -1,81 +1,223 @@
-//! Connections that are served in turns, one message at a time.
+//! Connections that are served in turns. A turn answers one message, or reads on in it.
+ghost use Rattle.std.specs.Prelude.{◌≡◌};
+ghost use Rattle.office.specs.Turning.{turn_of};
 
+use super::resuming::Resumed;
+use super::stepping::{Begun, Stepped};
 use crate::clocks::Clock;
 use crate::office::Office;
 use boxes::Keeper;
-use std::alloc::Global;
 use std::io::{Read, Write};
 use std::mem;
-use wire::{Counted, Feed, Room, Seat, SessionEnd, Standing};
+use wire::{Counted, Due, Feed, Seat, SessionEnd, Spare, Standing, Underway};
 
 /// The greatest number of messages on one connection.
 const MOST_MESSAGES: u64 = 1000;
 
-// What a step returns besides the connection's streams.
+/// What a turn came to.
+#[derive(Clone, Copy)]
+pub(crate) enum Turn {
+    /// A message was answered, and the connection goes on.
+    Answered,
+    /// The connection ended.
+    Ended(SessionEnd),
+    /// No message was answered, and the connection goes on.
+    ReadOn,
+}
+
+/// What a turn returns besides the connection's streams.
 #[derive(Drop)]
-struct Aside {
+pub(crate) struct Aside {
     standing: Standing,
-    room: Option<Room>,
-    end: Option<SessionEnd>,
+    underway: Option<Underway>,
+    spare: Spare,
+    turn: Turn,
+}
+
+// The turn whose step is done like this.
+fn turn_of(end: Option<SessionEnd>) -> Turn
+    ensures { result ≡ turn_of end }
+{
+    match end {
+        None => Turn::Answered,
+        Some(end) => Turn::Ended(end),
+    }
 }
 
 impl<K: Keeper> Office<K> {
-    ghost use Rattle.std.specs.Prelude.{◌≡◌, IfNone, IsSomeAnd};
-    ghost use Rattle.std.specs.Io.KnownBytes.{prepend_known};
+    ghost use Rattle.std.specs.Prelude.{◌≡◌, ◌≢◌, [], IsSomeAnd, None, Option, Some};
+    ghost use Rattle.std.specs.Option.{ForSome};
     ghost use Rattle.boxes.specs.State.{State};
-    ghost use Rattle.wire.specs.Feeds.{ahead_of, stood_at};
+    ghost use Rattle.wire.specs.Feeds.{given_before, stood_at};
+    ghost use Rattle.wire.specs.Seats.{left_behind};
+    ghost use Rattle.wire.specs.Underways.{IsUnderway};
     ghost use Rattle.wire.specs.Whole.{MayBegin};
-    ghost use Rattle.wire.specs.declared.feed.Place.TheVariants as stands;
     ghost use Rattle.office.specs.Connections.{MayGiveUp};
     ghost use Rattle.office.specs.Premise.{HoldsUnless, IsLeft, StaysUnstaged, WasKept};
     ghost use Rattle.office.specs.Seats.{TakesTurn, TellsTurn};
-    ghost use Rattle.office.specs.Stepping.{Steps, TellsStep};
+    ghost use Rattle.office.specs.Turning.{MayEndGivingUp, StandsAside, TellsAside, TurnsTo};
 
-    // One step of a feed that was set aside, using this room.
-    fn step_aside<R: Read, W: Write, C: Clock>(
+    // Begins with the next message of a connection.
+    fn begin<R: Read, W: Write, C: Clock>(
         &mut self,
         standing: Standing,
-        room: Room,
+        due: Due,
         reader: &mut Counted<R>,
         writer: &mut Counted<W>,
         clock: &mut C,
     ) -> Aside
-        requires { MayBegin (stood_at standing) }
-        ensures goes_on { IfNone result.end (stood_at result.standing ≡ stands.Between) }
-        ensures steps { (s : State) → WasKept K.Keeper self.old.keeper self.new.keeper s
-            → Steps C.now_gives stands.Between
-            (prepend_known (ahead_of standing) (R.remaining reader.old.inner))
-            (prepend_known (ahead_of result.standing) (R.remaining reader.new.inner))
-            (R.remaining reader.new.inner)
-            (W.contents writer.old.inner) (W.contents writer.new.inner) clock.old clock.new
-            K.Keeper self.old.keeper self.new.keeper s result.end }
-        ensures faults { TellsStep result.end reader.old reader.new writer.old writer.new }
+        requires begins { MayBegin (stood_at standing) }
+        requires none { given_before standing ≡ [] }
+        ensures stands { StandsAside result.turn result }
+        ensures turns { (s : State) → WasKept K.Keeper self.old.keeper self.new.keeper s
+            → TurnsTo C.now_gives (left_behind None standing (R.remaining reader.old.inner)) R.remaining reader.new
+            writer.old writer.new W.contents clock.old clock.new
+            K.Keeper self.old.keeper self.new.keeper s result result.turn }
+        ensures faults { TellsAside result.turn reader.old reader.new writer.old writer.new }
         ensures unstaged { StaysUnstaged K.Keeper self.old.keeper self.new.keeper }
         ensures rest { HoldsUnless K.Keeper self.old.keeper self.new.keeper
-            (IsSomeAnd result.end (MayGiveUp K.Keeper self.old.keeper self.new.keeper)) }
+            (MayEndGivingUp K.Keeper self.old.keeper self.new.keeper result.turn) }
+        ensures free { due.most ≡ None → result.turn ≢ Turn.ReadOn }
     {
-        let mut feed = Feed::resume(standing, room, reader);
-        let end = self.step(&mut feed, writer, clock);
-        let aside = feed.set_aside();
+        let Due {
+            buffer,
+            text,
+            most,
+            ..
+        } = due;
+        let mut text = text;
+        let mut feed = Feed::resume(standing, buffer, most, reader);
+        let stepped = self.step(&mut feed, &mut text, writer, clock);
+        let (standing, buffer) = feed.set_aside();
         feed.into_reader();
-        Aside {
-            standing: aside.0,
-            room: aside.1,
-            end,
+        match stepped {
+            Stepped::Done(end) => Aside {
+                standing,
+                underway: None,
+                spare: Spare {
+                    buffer,
+                    text: Some(text),
+                },
+                turn: turn_of(end),
+            },
+            Stepped::Waits(None) => Aside {
+                standing,
+                underway: None,
+                spare: Spare {
+                    buffer,
+                    text: Some(text),
+                },
+                turn: Turn::ReadOn,
+            },
+            Stepped::Waits(Some(Begun { len, size, kept })) => Aside {
+                standing,
+                underway: Some(Underway {
+                    text,
+                    len,
+                    size,
+                    kept,
+                }),
+                spare: Spare { buffer, text: None },
+                turn: Turn::ReadOn,
+            },
         }
     }
 
-    /// Gives the connection a turn: reads its next message through the room and answers it. The room is
-    /// returned if no bytes wait in it, and also if the connection ends; the bytes that were read and not
-    /// taken are then discarded. A connection that has ended stays as it is. The bytes read, the moment, the
-    /// bytes written, the end and the state after are those of the next message of its session, whatever was
-    /// done for other connections in between. It is given up only within a message that has begun.
+    // Goes on with the message of a connection whose body has not come whole.
+    fn go_on<R: Read, W: Write, C: Clock>(
+        &mut self,
+        standing: Standing,
+        underway: Underway,
+        due: Due,
+        reader: &mut Counted<R>,
+        writer: &mut Counted<W>,
+        clock: &mut C,
+    ) -> Aside
+        requires { IsUnderway underway standing }
+        ensures stands { StandsAside result.turn result }
+        ensures turns { (s : State) → WasKept K.Keeper self.old.keeper self.new.keeper s
+            → TurnsTo C.now_gives (left_behind (Some underway) standing (R.remaining reader.old.inner)) R.remaining reader.new
+            writer.old writer.new W.contents clock.old clock.new
+            K.Keeper self.old.keeper self.new.keeper s result result.turn }
+        ensures faults { TellsAside result.turn reader.old reader.new writer.old writer.new }
+        ensures unstaged { StaysUnstaged K.Keeper self.old.keeper self.new.keeper }
+        ensures rest { HoldsUnless K.Keeper self.old.keeper self.new.keeper
+            (MayEndGivingUp K.Keeper self.old.keeper self.new.keeper result.turn) }
+        ensures free { due.most ≡ None → result.turn ≢ Turn.ReadOn }
+    {
+        let Due {
+            buffer,
+            text,
+            most,
+            ..
+        } = due;
+        let mut feed = Feed::resume(standing, buffer, most, reader);
+        let resumed = self.resume(&mut feed, underway, writer, clock);
+        let (standing, buffer) = feed.set_aside();
+        feed.into_reader();
+        let spare = Spare {
+            buffer,
+            text: Some(text),
+        };
+        match resumed {
+            Resumed::Done(end) => Aside {
+                standing,
+                underway: None,
+                spare,
+                turn: turn_of(end),
+            },
+            Resumed::Waits(underway) => Aside {
+                standing,
+                underway: Some(underway),
+                spare,
+                turn: Turn::ReadOn,
+            },
+        }
+    }
+
+    // A turn of a connection whose feed was set aside.
+    fn turn_aside<R: Read, W: Write, C: Clock>(
+        &mut self,
+        standing: Standing,
+        underway: Option<Underway>,
+        due: Due,
+        reader: &mut Counted<R>,
+        writer: &mut Counted<W>,
+        clock: &mut C,
+    ) -> Aside
+        requires begins { underway ≡ None → MayBegin (stood_at standing) }
+        requires none { underway ≡ None → given_before standing ≡ [] }
+        requires goes_on { ForSome underway (λ u. IsUnderway u standing) }
+        ensures stands { StandsAside result.turn result }
+        ensures turns { (s : State) → WasKept K.Keeper self.old.keeper self.new.keeper s
+            → TurnsTo C.now_gives (left_behind underway standing (R.remaining reader.old.inner)) R.remaining reader.new
+            writer.old writer.new W.contents clock.old clock.new
+            K.Keeper self.old.keeper self.new.keeper s result result.turn }
+        ensures faults { TellsAside result.turn reader.old reader.new writer.old writer.new }
+        ensures unstaged { StaysUnstaged K.Keeper self.old.keeper self.new.keeper }
+        ensures rest { HoldsUnless K.Keeper self.old.keeper self.new.keeper
+            (MayEndGivingUp K.Keeper self.old.keeper self.new.keeper result.turn) }
+        ensures free { due.most ≡ None → result.turn ≢ Turn.ReadOn }
+    {
+        match underway {
+            None => self.begin(standing, due, reader, writer, clock),
+            Some(underway) => self.go_on(standing, underway, due, reader, writer, clock),
+        }
+    }
+
+    /// Gives the connection a turn, through the buffer: reads its next message and answers it, or reads on in
+    /// it if no more bytes may be read. What the connection does not need is returned. A connection that has
+    /// ended stays as it is; bytes that were read and not taken are discarded when it ends. The bytes read, the
+    /// moment, the bytes written, the end and the state after are those of the next message of its session,
+    /// whatever was done for other connections in between. A turn that only reads on tells no moment and writes
+    /// nothing; there is none if bytes may be read without end. The connection is given up only within a message
+    /// that has begun.
     pub fn take_turn<R: Read, W: Write, C: Clock>(
         &mut self,
         seat: &mut Seat<R, W>,
-        room: Room,
+        due: Due,
         clock: &mut C,
-    ) -> Option<Room>
+    ) -> Spare
         ensures turns { (s : State) → WasKept K.Keeper self.old.keeper self.new.keeper s
             → (after : State) × IsLeft (K.means self.new.keeper) after
             × TakesTurn C.now_gives R.remaining W.contents seat.old seat.new clock.old clock.new
@@ -84,27 +226,32 @@ impl<K: Keeper> Office<K> {
         ensures unstaged { StaysUnstaged K.Keeper self.old.keeper self.new.keeper }
         ensures rest { HoldsUnless K.Keeper self.old.keeper self.new.keeper
             (IsSomeAnd seat.new.end (MayGiveUp K.Keeper self.old.keeper self.new.keeper)) }
+        ensures free { due.most ≡ None → seat.new.waited ≡ seat.old.waited }
     {
-        if seat.end.is_some() {
-            return Some(room);
+        if seat.end().is_some() {
+            return due.spare();
         }
         if seat.served >= MOST_MESSAGES {
+            let mut spare = due.spare();
             seat.end = Some(SessionEnd::Limit);
-            seat.standing.let_go();
-            return Some(room);
+            spare.take_back(seat.standing.let_go());
+            return spare;
         }
         let standing = mem::replace(&mut seat.standing, Standing::new(self.alloc));
-        let aside = self.step_aside(standing, room, &mut seat.reader, &mut seat.writer, clock);
+        let underway = seat.underway.take();
+        let (reader, writer) = (&mut seat.reader, &mut seat.writer);
+        let aside = self.turn_aside(standing, underway, due, reader, writer, clock);
         seat.standing = aside.standing;
-        match aside.end {
-            None => {
-                seat.served += 1;
-                aside.room
-            }
-            Some(end) => {
+        seat.underway = aside.underway;
+        let mut spare = aside.spare;
+        match aside.turn {
+            Turn::Answered => seat.served += 1,
+            Turn::ReadOn => seat.waited = seat.waited.and(&seat.served, &seat.served),
+            Turn::Ended(end) => {
                 seat.end = Some(end);
-                aside.room.or(seat.standing.let_go())
+                spare.take_back(seat.standing.let_go());
             }
         }
+        spare
     }
 }

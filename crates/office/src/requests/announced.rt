@@ -1,10 +1,10 @@
 //! A message whose body has not come yet.
-ghost use Rattle.std.specs.Prelude.{◌≡◌, length};
-ghost use Rattle.office.specs.Announcing.{request_with};
+ghost use Rattle.std.specs.Prelude.{◌≡◌, ◌≤◌, ℕ, List, length};
+ghost use Rattle.office.specs.Announcing.{request_opened, request_with};
 ghost use Rattle.wire.specs.Messages.{request_in};
 
 use sigtext::Field;
-use wire::Message;
+use wire::{MOST_FIELDS, Message, Opening};
 
 /// The head of a message, and the length of its body.
 #[derive(Clone, Copy)]
@@ -32,5 +32,24 @@ pub(crate) fn announce<'a>(message: &Message<'a>) -> Announced<'a>
         fields: message.fields,
         has_length: message.has_length,
         length: message.body.len(),
+    }
+}
+
+/// What the head of a message announced. Its fields are at the front of the array.
+pub(crate) fn announce_head<'a>(
+    opening: &Opening<'a>,
+    fields: &'a [Field<'a>; MOST_FIELDS],
+) -> Announced<'a>
+    requires { opening.now.head.count ≤ length fields.now }
+    ensures request { (body : List ℕ) → request_with result body ≡ request_opened opening.now fields.now body }
+    ensures length { result.length ≡ opening.now.length }
+    ensures method { result.method.now ≡ opening.now.head.method.now }
+{
+    Announced {
+        method: opening.head.method,
+        target: opening.head.target,
+        fields: &fields[..opening.head.count],
+        has_length: opening.has_length,
+        length: opening.length,
     }
 }

@@ -39,7 +39,7 @@ impl<K: Keeper> Office<K> {
     ghost use Rattle.office.specs.Frames.{Quiet, Replies};
     ghost use Rattle.office.specs.Offices.{IsTryAgain, IsAnswered, IsTheAnswer};
     ghost use Rattle.office.specs.Premise.{EndsUnstaged, HoldsUnless, IsFault, IsGivenUp, StaysUnstaged, WasKept};
-    ghost use Rattle.office.specs.Readable.{IsReadable};
+    ghost use Rattle.sigtext.specs.Readable.{IsReadable};
 
     // Does the errand of a message whose body came and whose link is admitted.
     fn run_errand(

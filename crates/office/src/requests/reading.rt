@@ -5,7 +5,7 @@ ghost use Rattle.links.specs.Methods.{method_text};
 ghost use Rattle.links.specs.WellFormed.{LinkValues, HeadRule};
 ghost use Rattle.links.specs.LinkReadings.{IsLinkOf};
 ghost use Rattle.office.specs.Announcing.{request_with};
-ghost use Rattle.office.specs.Readable.{IsReadable};
+ghost use Rattle.sigtext.specs.Readable.{IsReadable};
 
 use super::announced::Announced;
 use links::{LinkParts, Method, inspect};

@@ -11,7 +11,8 @@ use Rattle.sigtext.specs.Signing.{values_of}
 use Rattle.links.specs.LinkReadings.{IsAskedBy}
 use Rattle.sigtext.specs.Target.{Param, IsTargetOf}
 use Rattle.links.specs.Forms.{IsHexDigest}
-use Rattle.links.specs.SixValues.{SixRule, HaveNames, texts_of}
+use Rattle.links.specs.SixValues.{SixRule, texts_of}
+use Rattle.sigtext.specs.Readable.{HaveNames}
 use Rattle.links.proofs.CredentialCuts.{scope_fits}
 use Rattle.links.proofs.Texts.{clash}
 use Rattle.links.proofs.SixForms.{names_fail, signature_fails, with_names, all_hold}

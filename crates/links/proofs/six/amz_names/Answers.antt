@@ -1,6 +1,6 @@
 use Rattle.std.proofs.Common.{sym, ◌∙◌, arith}
 use Rattle.percent_encoding.specs.Percent.{percent_decode}
-use Rattle.links.specs.WellFormed.{is_signing_name, is_other_amz_name}
+use Rattle.sigtext.specs.Readable.{is_signing_name, is_other_amz_name}
 use Rattle.links.proofs.AmzNames.{signing_is_no_other, other_begins, no_other_begins}
 use Rattle.links.proofs.PairLoops.{any_more, any_here}
 use Rattle.links.proofs.six.amz_names.Goals as goal

@@ -1,7 +1,7 @@
 use Rattle.std.specs.Prelude.{List}
 use Rattle.sigtext.specs.Target.{Param}
 use Rattle.sigtext.specs.Targets.{SpellsOptionalQuery}
-use Rattle.links.specs.WellFormed.{is_signing_name, is_other_amz_name}
+use Rattle.sigtext.specs.Readable.{is_signing_name, is_other_amz_name}
 use Rattle.links.proofs.PairLoops.{TellsAny}
 use Rattle.links.proofs.six.amz_names.Given as goal
 

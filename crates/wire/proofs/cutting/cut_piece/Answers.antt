@@ -23,7 +23,8 @@ returns g c =
       end = λ zero. at_end c.in_ok-read_more.field-0 r s old mid bytes (empty _ _ c.if-not-is_empty.ensures c.waiting.ensures) (part.none c.requires.some zero) more consumed some none;
       fault = tt;
       room = part.room ∙ c.read_more.ensures.room ∙ c.requires.room;
-      count = record { err = tt; ok = c.in_ok-read_more.ensures.count.ok };
+      count = c.in_ok-read_more.ensures.count;
+      free = λ h. (part.kept ∙ (c.in_ok-read_more.ensures.free h).0, tt);
     }
 
 pub returns-then-not-is_empty : goal.returns-then-not-is_empty
@@ -38,7 +39,8 @@ returns-then-not-is_empty g c =
       end = λ zero. absurd (not_empty _ _ c.if-not-is_empty.ensures c.waiting.ensures (part.none c.requires.some zero));
       fault = tt;
       room = part.room ∙ c.requires.room;
-      count = record { err = tt; ok = refl };
+      count = refl;
+      free = λ h. (part.kept ∙ h, tt);
     }
 
 pub read_more-requires : goal.read_more-requires

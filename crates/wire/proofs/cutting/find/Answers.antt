@@ -9,6 +9,8 @@ use Rattle.wire.specs.Openings.{ArePartsOf}
 use Rattle.wire.specs.Waiting.{Shows, waiting}
 use Rattle.wire.specs.declared.feed.Step.{Step}
 use Rattle.wire.proofs.WaitingFronts.{of_whole, of_end, awaits_head, text_alone, text_copied, opened, barred, next_too_long, next_truncated, breaks_early}
+use Rattle.wire.specs.declared.feed.Opening.{Opening}
+use Rattle.wire.proofs.Faults.{counts_same, finds_none}
 use Rattle.wire.proofs.cutting.find.Goals as goal
 
 -- what the bytes show, for an equal step
@@ -48,7 +50,8 @@ returns-in-Ok g c =
       );
       parts = subst (λ (t : List ℕ). ArePartsOf t c.in-Ok.opening.head c.read_announcement.new.fields) (sym c.in-Ok.ensures.text) c.in-Ok.ensures.parts;
       room = c.take.ensures.room ∙ c.read_head.ensures.room;
-      count = record { err = tt; ok = c.in-Ok-Head.ensures.count.ok };
+      count = c.in-Ok-Head.ensures.count;
+      free = λ h. (c.take.ensures.most ∙ (c.in-Ok-Head.ensures.free h).0, tt);
     }
 
 pub returns-in-Err-read_announcement : goal.returns-in-Err-read_announcement
@@ -65,7 +68,8 @@ returns-in-Err-read_announcement g c =
       );
       parts = tt;
       room = c.take.ensures.room ∙ c.read_head.ensures.room;
-      count = record { err = tt; ok = c.in-Ok-Head.ensures.count.ok };
+      count = c.in-Ok-Head.ensures.count;
+      free = λ h. (c.take.ensures.most ∙ (c.in-Ok-Head.ensures.free h).0, tt);
     }
 
 pub returns-in-Ok-Refused : goal.returns-in-Ok-Refused
@@ -76,7 +80,8 @@ returns-in-Ok-Refused g c =
           (lit< tt, lit≤ tt, of_whole _ _ (waiting c.read_head.new.self) (λ s. Next s (Refused rule.HeadTooLong) []) c.in-Ok-Refused.ensures.kept (λ rest. next_too_long _ rest shows.1 shows.2));
       parts = tt;
       room = c.read_head.ensures.room;
-      count = record { err = tt; ok = c.in-Ok-Refused.ensures.count.ok };
+      count = c.in-Ok-Refused.ensures.count;
+      free = λ h. ((c.in-Ok-Refused.ensures.free h).0, tt);
     }
 
 pub returns-in-Ok-End : goal.returns-in-Ok-End
@@ -86,7 +91,8 @@ returns-in-Ok-End g c =
       finds = (shows.0, shows.1, of_end _ _ (waiting c.read_head.new.self) (λ s. Next s Ended []) c.in-Ok-End.ensures.kept shows.1 (next.ended shows.0));
       parts = tt;
       room = c.read_head.ensures.room;
-      count = record { err = tt; ok = c.in-Ok-End.ensures.count.ok };
+      count = c.in-Ok-End.ensures.count;
+      free = λ h. ((c.in-Ok-End.ensures.free h).0, tt);
     }
 
 pub returns-in-Ok-Truncated : goal.returns-in-Ok-Truncated
@@ -96,16 +102,18 @@ returns-in-Ok-Truncated g c =
       finds = (shows.3, of_end _ _ (waiting c.read_head.new.self) (λ s. Next s Truncated []) c.in-Ok-Truncated.ensures.kept shows.3 (next_truncated _ shows.0 shows.1 shows.2));
       parts = tt;
       room = c.read_head.ensures.room;
-      count = record { err = tt; ok = c.in-Ok-Truncated.ensures.count.ok };
+      count = c.in-Ok-Truncated.ensures.count;
+      free = λ h. ((c.in-Ok-Truncated.ensures.free h).0, tt);
     }
 
 pub returns-in-Err : goal.returns-in-Err
 returns-in-Err g c =
     record {
-      finds = rw c.in-Err.ensures.fault (awaits_head _ c.in-Err.ensures.shows.0 c.in-Err.ensures.shows.1, c.in-Err.ensures.kept);
+      finds = finds_none c.in-Err.fault _ _ _ c.in-Err.ensures.fault (awaits_head _ c.in-Err.ensures.shows.0 c.in-Err.ensures.shows.1) c.in-Err.ensures.kept;
       parts = tt;
       room = c.read_head.ensures.room;
-      count = record { err = c.in-Err.ensures.count.err; ok = tt };
+      count = counts_same (Step ℕ) (Step Opening) c.in-Err.fault _ _ c.in-Err.ensures.count;
+      free = λ h. c.in-Err.ensures.free h;
     }
 
 pub shared_ref_as_front-read_announcement : goal.shared_ref_as_front-read_announcement

@@ -1,12 +1,13 @@
 use Rattle.std.proofs.Common.{◌≡◌, List, ℕ, Result, Ok, Err, refl, sym, ap, subst, ◌∙◌, arith}
 use Rattle.std.specs.Borrow.{Bor}
 use Rattle.wire.specs.Feeding.{CountsReads}
+use Rattle.wire.specs.Feeds.{given_of}
 use Rattle.wire.specs.declared.fault.WireFault.{WireFault}
 use Rattle.wire.specs.declared.feed.Piece.{Piece}
 use Rattle.wire.specs.declared.joining.Ending.{Ending}
 use Rattle.wire.specs.declared.joining.Ending.TheVariants.{Whole, Lacking}
 use Rattle.wire.proofs.Beginnings.{counts_failed}
-use Rattle.wire.proofs.Skips.{lacks, skips_on, counts_none}
+use Rattle.wire.proofs.Skips.{broke_off, lacks, skipped_none, skips_on, takes_given, counts_none}
 use Rattle.wire.proofs.joining.skip_body.Goals as goal
 
 pub pieces-preserved : goal.pieces-preserved
@@ -16,9 +17,10 @@ pieces-preserved g c =
     let new = c.piece.follows.lender-at-none in
     let h = c.piece.follows.holds-at-none in
     record {
-      skipped = skips_on g.R.Read.remaining c.args.size c.args.feed.now old new c.piece.result c.in-Ok-Bytes.field-0-0 c.pieces.invariant.skipped is h.1;
+      skipped = skips_on g.R.Read.remaining c.args.size c.args.feed.now old new c.piece.result c.in-Ok-Bytes.field-0-0 c.pieces.invariant.skipped is h.1 h.3;
       same = h.0 ∙ c.pieces.invariant.same;
       count = counts_none c.piece.result _ old.reader.now.faults new.reader.now.faults is h.2 ∙ c.pieces.invariant.count;
+      free = λ free. (h.4 (c.pieces.invariant.free free)).0;
     }
 
 pub returns-in-Ok-Refused-clause-lacking : goal.returns-in-Ok-Refused-clause-lacking
@@ -66,10 +68,23 @@ pub returns-in-Ok-Refused-clause-count : goal.returns-in-Ok-Refused-clause-count
 returns-in-Ok-Refused-clause-count g c = counts_none c.piece.result _ c.pieces.feed.reader.now.faults _ c.in-Ok-Refused.is c.piece.follows.holds-at-none.2 ∙ c.pieces.invariant.count
 
 pub pieces-init : goal.pieces-init
-pieces-init g c = grind arith
+pieces-init g c = record { skipped = skipped_none g.R.Read.remaining c.args.size c.args.feed.now c.requires; same = refl; count = refl; free = λ free. free }
+
+pub returns-in-Ok-Done-clause-whole : goal.returns-in-Ok-Done-clause-whole
+returns-in-Ok-Done-clause-whole g c = λ _.
+    let h = c.piece.follows.holds-at-none in
+    (given_of c.pieces.feed, takes_given g.R.Read.remaining c.args.size c.args.feed.now c.pieces.feed c.piece.follows.lender-at-none c.piece.result c.pieces.invariant.skipped (c.in-Ok-Done.is ∙ ap Ok c.in-Ok-Done.field-0-is) h.1 h.3)
+
+pub returns-in-Ok-Done-clause-free : goal.returns-in-Ok-Done-clause-free
+returns-in-Ok-Done-clause-free g c = λ free. ((c.piece.follows.holds-at-none.4 (c.pieces.invariant.free free)).0, tt)
+
+pub returns-in-Ok-Refused-clause-free : goal.returns-in-Ok-Refused-clause-free
+returns-in-Ok-Refused-clause-free g c = λ free. ((c.piece.follows.holds-at-none.4 (c.pieces.invariant.free free)).0, tt)
 
 pub pieces-smaller : goal.pieces-smaller
 pieces-smaller g c = grind arith
 
 pub returns-in-Err-clause-fault : goal.returns-in-Err-clause-fault
-returns-in-Err-clause-fault g c = grind arith
+returns-in-Err-clause-fault g c =
+    let h = c.piece.follows.holds-at-none in
+    broke_off g.R.Read.remaining c.args.size c.args.feed.now c.pieces.feed c.piece.follows.lender-at-none c.piece.result c.in-Err.fault c.pieces.invariant.skipped c.in-Err.is h.1 h.3

@@ -1,4 +1,5 @@
 use Rattle.std.proofs.Common.{◌≡◌}
+use Rattle.wire.specs.Waiting.{IsFree}
 use Rattle.wire.proofs.Skipping.{HasSkipped, to_come}
 use Rattle.wire.proofs.joining.skip_body.Given as goal
 
@@ -7,6 +8,7 @@ invariant-pieces g l = record {
   skipped : HasSkipped g.R.Read.remaining l.size l.fn.feed l.feed;
   same : l.feed.reader.ghost_name ≡ l.fn.feed.reader.ghost_name;
   count : l.feed.reader.now.faults ≡ l.fn.feed.reader.now.faults;
+  free : IsFree l.fn.feed.backlog → IsFree l.feed.backlog;
 }
 
 abbrev pub decreases-pieces : goal.decreases-pieces

@@ -9,7 +9,7 @@ returns-in-Some-clause-opened g c = (
   c.in-Some.ensures.some.0,
   c.in-Some.ensures.some.1,
   refl,
-  by_comes g.R.Read.remaining g.W.Write.contents c.args.slots.now c.in-Some.index None c.args.seat c.in-Some.ensures.some.0 c.in-Some.ensures.some.1 (record { none = c.requires.none; open_still = c.requires.open_still }),
+  by_comes g.R.Read.remaining g.W.Write.contents c.args.slots.now c.in-Some.index None c.args.seat c.in-Some.ensures.some.0 c.in-Some.ensures.some.1 (record { none = c.requires.none; open_still = c.requires.open_still; unwaited = c.requires.unwaited; unbegun = c.requires.unbegun }),
 )
 
 pub bounds-slots-index : goal.bounds-slots-index

@@ -4,7 +4,7 @@ use Rattle.wire.specs.Messages.{request_in}
 use Rattle.office.specs.Announcing.{request_with}
 use Rattle.office.specs.Answering.{is_head}
 use Rattle.office.specs.Foreseeing.{Foresees}
-use Rattle.office.specs.Readable.{IsReadable}
+use Rattle.sigtext.specs.Readable.{IsReadable}
 use Rattle.office.proofs.Alikeness.{the_answer}
 use Rattle.office.proofs.Endurance.{adds_less, then_adds, then_answered, then_asked}
 use Rattle.office.proofs.Foreseen.{no_fault, of_err, of_ok, upload_readable}

@@ -1,133 +1,137 @@
-use Rattle.std.proofs.Common.{◌≡◌, ℕ, refl, subst, sym, arith}
-use Rattle.std.specs.Prelude.{IsSomeAnd, OnErr}
+use Rattle.std.proofs.Common.{◌≡◌, ◌∙◌, ◌++◌, ℕ, List, [], Err, Ok, refl, subst, sym, arith, inl, inr}
+use Rattle.std.specs.Prelude.{IsSomeAnd, IsTrue, Option, OnErr}
+use Rattle.std.specs.Io.KnownBytes.{Consumes}
 use Rattle.sigtext.specs.Counts.{Rose}
 use Rattle.office.specs.Connections.{MayGiveUp}
 use Rattle.office.specs.Premise.{IsFault}
-use Rattle.office.specs.Stepping.{Steps, TellsStep}
+use Rattle.office.specs.Stepping.{IsExpected, Steps, TellsStep}
 use Rattle.office.specs.declared.requests.foreseeing.Body.{Body}
 use Rattle.office.specs.declared.connections.receiving.Received.TheVariants as received
 use Rattle.office.proofs.BodySteps.{broken_off_step, came_whole, given_up_step, lacking_step, whole_step}
-use Rattle.office.proofs.Endings.{broken_not_gave_up, lacking_not_gave_up, whole_not_broken, whole_not_gave_up}
+use Rattle.office.proofs.BodyWaits.{begun_from, begun_so, either_way, expected_first, part_first, short_head, some_is, stands_by, stands_first, taken_all, waits_kept, waits_not_gave_up, whole_left_first}
+use Rattle.office.proofs.Stagings.{nothing_read}
+use Rattle.office.proofs.Endings.{broken_not_gave_up, lacking_not_gave_up, whole_not_gave_up}
 use Rattle.office.specs.Frames.{Quiet}
-use Rattle.office.proofs.KeeperCalls.{quiet_both, quiet_less, quiet_then, unstaged_after, unstaged_served}
+use Rattle.office.specs.Receiving.{HoldsPart}
+use Rattle.office.proofs.KeeperCalls.{on_err, on_ok, quiet_both, quiet_less, quiet_then}
 use Rattle.office.proofs.Holding.{holds_less, holds_then}
 use Rattle.office.proofs.SessionSteps.{before_quiet}
-use Rattle.office.proofs.Unstaged.{broke_off_holds, may_later, then_holds}
-use Rattle.wire.specs.Feeds.{left, reader_of}
-use Rattle.office.proofs.Handlings.{closed_again, handled_faults, handled_may_give_up, if_none_so}
+use Rattle.wire.specs.Feeds.{left, reader_of, waits_in, whole_left}
 use Rattle.office.proofs.office.Office.serve_body.Goals as goal
 
+pub receive-requires : goal.receive-requires
+receive-requires g c = stands_first c.args.feed.now c.requires.none c.args.size c.requires.open
+
 pub returns-in-Whole-clause-steps : goal.returns-in-Whole-clause-steps
-returns-in-Whole-clause-steps g c s p known kept x =
+returns-in-Whole-clause-steps g c s p known head kept x len =
     let r = c.in-Whole.ensures in
     let took = c.receive.new in
-    let handled = c.serve_message.result in
-    let quiet : Quiet g.K.Keeper c.args.self.now.keeper took.self.keeper (received.Whole c.in-Whole.digest ≡ received.GaveUp) = r.quiet in
+    let began = c.begin_staging.new.self.keeper in
+    let is_ok = c.is_err.ensures.value in
+    let quiet : Quiet g.K.Keeper c.args.self.now.keeper took.self.keeper (received.Whole c.in-Whole.digest ≡ received.GaveUp) =
+    quiet_then (quiet_less (λ fault. on_ok ⊥ c.is_err.result c.begin_staging.result is_ok c.if-is_err.false fault) c.begin_staging.ensures.quiet) r.quiet in
     let told : Body = record { length = c.args.size; digest = c.in-Whole.digest } in
-    subst (λ e. Steps g.C.Clock.now_gives p known (left g.R.Read.remaining took.feed) (g.R.Read.remaining (reader_of took.feed).inner) (g.W.Write.contents c.args.writer.now.inner) (g.W.Write.contents c.serve_message.new.writer.inner)
-    c.args.clock.now c.serve_message.new.clock g.K.Keeper c.args.self.now.keeper c.serve_message.new.self.keeper s e) (sym c.end_of.ensures)
-    (whole_step g.R.Read.remaining c.args.size c.args.feed.now took.feed g.C.Clock.now_gives p known (g.W.Write.contents c.args.writer.now.inner) (g.W.Write.contents c.serve_message.new.writer.inner)
-    c.args.clock.now c.serve_message.new.clock g.K.Keeper c.args.self.now.keeper took.self.keeper c.serve_message.new.self.keeper s c.args.foreseen c.args.to_head x handled told
-    (came_whole g.R.Read.remaining c.args.size c.args.feed.now took.feed g.K.Keeper took.self.keeper c.args.foreseen c.is_upload-upload.result told x.opening.opens.small c.is_upload-upload.ensures
-    (r.whole c.in-Whole.digest refl) (λ up. r.staged up c.in-Whole.digest refl) refl)
-    (before_quiet g.K.Keeper c.args.self.now.keeper took.self.keeper s (received.Whole c.in-Whole.digest ≡ received.GaveUp) quiet (whole_not_gave_up _) kept.means (c.serve_message.ensures.rest.honest kept.is_honest))
-    (λ request foresees tells head staged. c.serve_message.ensures.handled s request (record { means = r.quiet.same s kept.means; is_honest = kept.is_honest; sound = kept.sound }) foresees tells head staged))
+    let y = expected_first c.args.feed.now c.requires.none g.R.Read.remaining s c.args.size known c.args.foreseen c.args.to_head head x in
+    subst (λ e. Steps g.C.Clock.now_gives p known (left g.R.Read.remaining took.feed) (g.R.Read.remaining (reader_of took.feed).inner) (g.W.Write.contents c.args.writer.now.inner) (g.W.Write.contents c.serve_message-handled.new.writer.inner)
+    c.args.clock.now c.serve_message-handled.new.clock g.K.Keeper c.args.self.now.keeper c.serve_message-handled.new.self.keeper s e) (sym c.end_of.ensures)
+    (whole_step g.R.Read.remaining c.args.size c.args.feed.now took.feed g.C.Clock.now_gives p known (g.W.Write.contents c.args.writer.now.inner) (g.W.Write.contents c.serve_message-handled.new.writer.inner)
+    c.args.clock.now c.serve_message-handled.new.clock g.K.Keeper c.args.self.now.keeper took.self.keeper c.serve_message-handled.new.self.keeper s c.args.foreseen c.args.to_head y c.serve_message-handled.result told
+    (came_whole g.R.Read.remaining c.args.size c.args.feed.now took.feed g.K.Keeper took.self.keeper c.args.foreseen c.is_upload-upload.result told y.opening.opens.small c.is_upload-upload.ensures
+    r.passes
+    (λ up. r.stages up (part_first c.args.feed.now c.requires.none g.K.Keeper began c.new-sha.result (on_ok (g.K.Keeper.stages began []) c.is_err.result c.begin_staging.result is_ok c.if-is_err.false (c.begin_staging.ensures.staged up)) c.new-sha.ensures)) refl)
+    (before_quiet g.K.Keeper c.args.self.now.keeper took.self.keeper s (received.Whole c.in-Whole.digest ≡ received.GaveUp) quiet (whole_not_gave_up _) kept.means (c.serve_message-handled.ensures.rest.honest kept.is_honest))
+    (λ request foresees tells head staged. c.serve_message-handled.ensures.handled s request (record { means = quiet.same s kept.means; is_honest = kept.is_honest; sound = kept.sound }) foresees tells head staged))
 
-pub returns-in-Whole-clause-goes_on : goal.returns-in-Whole-clause-goes_on
-returns-in-Whole-clause-goes_on g c = if_none_so c.end_of.result ((c.in-Whole.ensures.whole c.in-Whole.digest refl).1.1)
-
-pub returns-in-Whole-clause-faults : goal.returns-in-Whole-clause-faults
-returns-in-Whole-clause-faults g c =
-    subst (λ e. TellsStep e (reader_of c.args.feed.now) (reader_of c.receive.new.feed) c.args.writer.now c.serve_message.new.writer) (sym c.end_of.ensures)
-    (handled_faults c.serve_message.result (reader_of c.args.feed.now) (reader_of c.receive.new.feed) c.args.writer.now c.serve_message.new.writer (c.in-Whole.ensures.clean (whole_not_broken _)) c.serve_message.ensures.fault c.serve_message.ensures.clean)
-
-pub returns-in-Whole-clause-unstaged : goal.returns-in-Whole-clause-unstaged
-returns-in-Whole-clause-unstaged g c = unstaged_served g.K.Keeper c.args.self.now.keeper c.receive.new.self.keeper c.serve_message.new.self.keeper c.is_upload-upload.result c.in-Whole.ensures.quiet.rest.never_less c.in-Whole.ensures.passed c.is_upload-upload.ensures.0 c.serve_message.ensures.unstaged
-
-pub returns-in-Whole-clause-rest : goal.returns-in-Whole-clause-rest
-returns-in-Whole-clause-rest g c =
-    holds_then (holds_less (whole_not_gave_up _) c.in-Whole.ensures.quiet.rest)
-    (holds_less (λ may. subst (λ e. IsSomeAnd e (MayGiveUp g.K.Keeper c.args.self.now.keeper c.serve_message.new.self.keeper)) (sym c.end_of.ensures) (handled_may_give_up g.K.Keeper c.args.self.now.keeper c.serve_message.new.self.keeper c.serve_message.result may)) c.serve_message.ensures.rest)
+pub returns-then-is_err-clause-steps : goal.returns-then-is_err-clause-steps
+returns-then-is_err-clause-steps g c s p known head kept x len =
+    let y = expected_first c.args.feed.now c.requires.none g.R.Read.remaining s c.args.size known c.args.foreseen c.args.to_head head x in
+    let asked = on_err (IsTrue c.is_upload-upload.result) c.is_err.result c.begin_staging.result c.is_err.ensures.value c.if-is_err.true c.begin_staging.ensures.asked in
+    let none = nothing_read (g.R.Read.remaining (reader_of c.args.feed.now).inner) (waits_in c.args.feed.now) in
+    given_up_step g.R.Read.remaining c.args.size c.args.feed.now c.args.feed.now g.C.Clock.now_gives p known (g.W.Write.contents c.args.writer.now.inner) (g.W.Write.contents c.close.new.writer.inner)
+    c.args.clock.now g.K.Keeper c.args.self.now.keeper c.drop_staged.new.self.keeper s c.args.foreseen c.args.to_head y c.close.result none.0 _
+    (quiet_both c.begin_staging.ensures.quiet c.drop_staged.ensures.quiet) kept (subst (λ (l : Option (List ℕ)). Consumes l (g.R.Read.remaining (reader_of c.args.feed.now).inner) none.0) (sym (whole_left_first c.args.feed.now c.requires.none g.R.Read.remaining)) none.1) (c.is_upload-upload.ensures.0 asked) c.close.ensures.closed
 
 pub returns-in-Lacking-clause-steps : goal.returns-in-Lacking-clause-steps
-returns-in-Lacking-clause-steps g c s p known kept x =
+returns-in-Lacking-clause-steps g c s p known head kept x len =
     let r = c.in-Lacking.ensures in
     let took = c.receive.new in
     let left_off = c.close_lacking.ensures in
-    let first : Quiet g.K.Keeper c.args.self.now.keeper took.self.keeper (received.Lacking ≡ received.GaveUp) = r.quiet in
+    let began = c.begin_staging.new.self.keeper in
+    let is_ok = c.is_err.ensures.value in
+    let first : Quiet g.K.Keeper c.args.self.now.keeper took.self.keeper (received.Lacking ≡ received.GaveUp) =
+    quiet_then (quiet_less (λ fault. on_ok ⊥ c.is_err.result c.begin_staging.result is_ok c.if-is_err.false fault) c.begin_staging.ensures.quiet) r.quiet in
     let second : Quiet g.K.Keeper took.self.keeper c.close_lacking.new.self.keeper (MayGiveUp g.K.Keeper took.self.keeper c.close_lacking.new.self.keeper c.close_lacking.result) = left_off.quiet in
+    let y = expected_first c.args.feed.now c.requires.none g.R.Read.remaining s c.args.size known c.args.foreseen c.args.to_head head x in
+    let held = λ (up : IsTrue c.is_upload-upload.result). part_first c.args.feed.now c.requires.none g.K.Keeper began c.new-sha.result (on_ok (g.K.Keeper.stages began []) c.is_err.result c.begin_staging.result is_ok c.if-is_err.false (c.begin_staging.ensures.staged up)) c.new-sha.ensures in
     lacking_step g.R.Read.remaining c.args.size c.args.feed.now took.feed g.C.Clock.now_gives p known (g.W.Write.contents c.args.writer.now.inner) (g.W.Write.contents c.close_lacking.new.writer.inner)
-    c.args.clock.now g.K.Keeper c.args.self.now.keeper c.close_lacking.new.self.keeper s c.args.foreseen c.args.to_head x c.close_lacking.result took.self.keeper c.is_upload-upload.result
-    (quiet_less lacking_not_gave_up first) second kept (r.lacking refl) c.is_upload-upload.ensures.0 left_off.closed
-
-pub returns-in-Lacking-clause-unstaged : goal.returns-in-Lacking-clause-unstaged
-returns-in-Lacking-clause-unstaged g c =
-    let r = c.in-Lacking.ensures in
-    unstaged_after g.K.Keeper c.args.self.now.keeper c.receive.new.self.keeper c.close_lacking.new.self.keeper c.is_upload-upload.result (r.quiet.rest.counted lacking_not_gave_up) r.passed c.close_lacking.ensures.ends c.close_lacking.ensures.stays
+    c.args.clock.now g.K.Keeper c.args.self.now.keeper c.close_lacking.new.self.keeper s c.args.foreseen c.args.to_head y c.close_lacking.result took.self.keeper c.is_upload-upload.result
+    (quiet_less lacking_not_gave_up first) second kept (either_way c.is_upload-upload.result r.passes (λ up. r.stages up (held up))) c.is_upload-upload.ensures.0 left_off.closed
 
 pub returns-in-Broken-clause-steps : goal.returns-in-Broken-clause-steps
-returns-in-Broken-clause-steps g c s p known kept x =
+returns-in-Broken-clause-steps g c s p known head kept x len =
     let r = c.in-Broken.ensures in
     let took = c.receive.new in
-    let dropped = c.drop_staged.ensures in
-    let first : Quiet g.K.Keeper c.args.self.now.keeper took.self.keeper (received.Broken ≡ received.GaveUp) = r.quiet in
-    let second : Quiet g.K.Keeper took.self.keeper c.drop_staged.new.self.keeper (IsFault c.drop_staged.result) = dropped.quiet in
-    let broke = r.broken refl in
+    let dropped = c.drop_staged-in-Broken.ensures in
+    let began = c.begin_staging.new.self.keeper in
+    let is_ok = c.is_err.ensures.value in
+    let first : Quiet g.K.Keeper c.args.self.now.keeper took.self.keeper (received.Broken ≡ received.GaveUp) =
+    quiet_then (quiet_less (λ fault. on_ok ⊥ c.is_err.result c.begin_staging.result is_ok c.if-is_err.false fault) c.begin_staging.ensures.quiet) r.quiet in
+    let second : Quiet g.K.Keeper took.self.keeper c.drop_staged-in-Broken.new.self.keeper (IsFault c.drop_staged-in-Broken.result) = dropped.quiet in
+    let y = expected_first c.args.feed.now c.requires.none g.R.Read.remaining s c.args.size known c.args.foreseen c.args.to_head head x in
+    let held = λ (up : IsTrue c.is_upload-upload.result). part_first c.args.feed.now c.requires.none g.K.Keeper began c.new-sha.result (on_ok (g.K.Keeper.stages began []) c.is_err.result c.begin_staging.result is_ok c.if-is_err.false (c.begin_staging.ensures.staged up)) c.new-sha.ensures in
+    let broke = either_way c.is_upload-upload.result r.passes (λ up. r.stages up (held up)) in
     broken_off_step g.R.Read.remaining c.args.size c.args.feed.now took.feed g.C.Clock.now_gives p known (g.W.Write.contents c.args.writer.now.inner) c.args.clock.now
-    g.K.Keeper c.args.self.now.keeper c.drop_staged.new.self.keeper s c.args.foreseen c.args.to_head x c.drop_staged.result c.is_upload-upload.result broke.0
+    g.K.Keeper c.args.self.now.keeper c.drop_staged-in-Broken.new.self.keeper s c.args.foreseen c.args.to_head y c.drop_staged-in-Broken.result c.is_upload-upload.result broke.0
     (quiet_then (quiet_less broken_not_gave_up first) second)
-    (subst (λ (n : ℕ). OnErr c.drop_staged.result (Rose n (g.K.Keeper.faults c.drop_staged.new.self.keeper))) (r.quiet.rest.counted broken_not_gave_up) dropped.counts)
+    (subst (λ (n : ℕ). OnErr c.drop_staged-in-Broken.result (Rose n (g.K.Keeper.faults c.drop_staged-in-Broken.new.self.keeper))) (first.rest.counted broken_not_gave_up) dropped.counts)
     kept dropped.asked c.is_upload-upload.ensures.0 broke.1 broke.2
 
-pub returns-in-Broken-clause-unstaged : goal.returns-in-Broken-clause-unstaged
-returns-in-Broken-clause-unstaged g c =
-    let r = c.in-Broken.ensures in
-    unstaged_after g.K.Keeper c.args.self.now.keeper c.receive.new.self.keeper c.drop_staged.new.self.keeper c.is_upload-upload.result (r.quiet.rest.counted broken_not_gave_up) r.passed c.drop_staged.ensures.ends c.drop_staged.ensures.stays
-
 pub returns-in-GaveUp-clause-steps : goal.returns-in-GaveUp-clause-steps
-returns-in-GaveUp-clause-steps g c s p known kept x =
+returns-in-GaveUp-clause-steps g c s p known head kept x len =
     let r = c.in-GaveUp.ensures in
     let took = c.receive.new in
     let dropped = c.drop_staged-in-GaveUp.ensures in
-    let first : Quiet g.K.Keeper c.args.self.now.keeper took.self.keeper (received.GaveUp ≡ received.GaveUp) = r.quiet in
+    let began = c.begin_staging.new.self.keeper in
+    let is_ok = c.is_err.ensures.value in
+    let first : Quiet g.K.Keeper c.args.self.now.keeper took.self.keeper (received.GaveUp ≡ received.GaveUp) =
+    quiet_then (quiet_less (λ fault. on_ok ⊥ c.is_err.result c.begin_staging.result is_ok c.if-is_err.false fault) c.begin_staging.ensures.quiet) r.quiet in
     let second : Quiet g.K.Keeper took.self.keeper c.drop_staged-in-GaveUp.new.self.keeper (IsFault c.drop_staged-in-GaveUp.result) = dropped.quiet in
-    let gave_up = r.gave_up refl in
-    given_up_step g.R.Read.remaining c.args.size c.args.feed.now took.feed g.C.Clock.now_gives p known (g.W.Write.contents c.args.writer.now.inner) (g.W.Write.contents c.close.new.writer.inner)
-    c.args.clock.now g.K.Keeper c.args.self.now.keeper c.drop_staged-in-GaveUp.new.self.keeper s c.args.foreseen c.args.to_head x c.close.result gave_up.0 _
-    (quiet_both first second) kept gave_up.1 (c.is_upload-upload.ensures.0 gave_up.2) c.close.ensures.closed
+    let y = expected_first c.args.feed.now c.requires.none g.R.Read.remaining s c.args.size known c.args.foreseen c.args.to_head head x in
+    let up = (r.counts refl).0 in
+    let held = part_first c.args.feed.now c.requires.none g.K.Keeper began c.new-sha.result (on_ok (g.K.Keeper.stages began []) c.is_err.result c.begin_staging.result is_ok c.if-is_err.false (c.begin_staging.ensures.staged up)) c.new-sha.ensures in
+    let gave_up = r.stages up held in
+    given_up_step g.R.Read.remaining c.args.size c.args.feed.now took.feed g.C.Clock.now_gives p known (g.W.Write.contents c.args.writer.now.inner) (g.W.Write.contents c.close-in-GaveUp.new.writer.inner)
+    c.args.clock.now g.K.Keeper c.args.self.now.keeper c.drop_staged-in-GaveUp.new.self.keeper s c.args.foreseen c.args.to_head y c.close-in-GaveUp.result gave_up.0 _
+    (quiet_both first second) kept gave_up.1 (c.is_upload-upload.ensures.0 up) c.close-in-GaveUp.ensures.closed
 
-pub returns-in-Lacking-clause-rest : goal.returns-in-Lacking-clause-rest
-returns-in-Lacking-clause-rest g c =
-    let first = c.in-Lacking.ensures.quiet.rest in
-    holds_then (holds_less lacking_not_gave_up first)
-    (holds_less (may_later g.K.Keeper c.args.self.now.keeper c.receive.new.self.keeper c.close_lacking.new.self.keeper c.close_lacking.result first.never_less) c.close_lacking.ensures.quiet.rest)
+pub returns-in-Waits-clause-steps : goal.returns-in-Waits-clause-steps
+returns-in-Waits-clause-steps g c s p known head kept x len =
+    let r = c.in-Waits.ensures in
+    let took = c.receive.new in
+    let keeps = c.keep-kept.ensures in
+    let began = c.begin_staging.new.self.keeper in
+    let is_ok = c.is_err.ensures.value in
+    let first : Quiet g.K.Keeper c.args.self.now.keeper took.self.keeper (received.Waits ≡ received.GaveUp) =
+    quiet_then (quiet_less (λ fault. on_ok ⊥ c.is_err.result c.begin_staging.result is_ok c.if-is_err.false fault) c.begin_staging.ensures.quiet) r.quiet in
+    let all : Quiet g.K.Keeper c.args.self.now.keeper c.keep-kept.new.self.keeper ⊥ = quiet_then (quiet_less waits_not_gave_up first) keeps.quiet in
+    let y = expected_first c.args.feed.now c.requires.none g.R.Read.remaining s c.args.size known c.args.foreseen c.args.to_head head x in
+    let held = λ (up : IsTrue c.is_upload-upload.result). part_first c.args.feed.now c.requires.none g.K.Keeper began c.new-sha.result (on_ok (g.K.Keeper.stages began []) c.is_err.result c.begin_staging.result is_ok c.if-is_err.false (c.begin_staging.ensures.staged up)) c.new-sha.ensures in
+    let waits = either_way c.is_upload-upload.result r.passes (λ up. (r.stages up (held up)).0) in
+    let begun = begun_so g.R.Read.remaining g.K.Keeper c.args.size c.args.feed.now took.feed s known c.args.foreseen c.args.to_head y c.keep-kept.result c.is_upload-upload.result took.self.keeper took.sha waits c.is_upload-upload.ensures.0
+    (λ k at. keeps.some.1 (some_is c.keep-kept.result k at)) (λ up. (r.stages up (held up)).1) keeps.kept in (
+      (short_head y.opening.opens len, rw (taken_all head len) begun, rw (taken_all head len) (waits_kept known _ _ head y.opening.front waits.kept)),
+      stands_by all kept,
+    )
 
-pub returns-in-Broken-clause-rest : goal.returns-in-Broken-clause-rest
-returns-in-Broken-clause-rest g c =
-    let first = c.in-Broken.ensures.quiet.rest in
-    broke_off_holds g.K.Keeper c.args.self.now.keeper c.receive.new.self.keeper c.drop_staged.new.self.keeper c.drop_staged.result (holds_less broken_not_gave_up first) c.drop_staged.ensures.quiet.rest c.drop_staged.ensures.counts
-
-pub returns-in-GaveUp-clause-rest : goal.returns-in-GaveUp-clause-rest
-returns-in-GaveUp-clause-rest g c = let may = closed_again g.K.Keeper c.args.self.now.keeper c.drop_staged-in-GaveUp.new.self.keeper _ _ c.close.result c.close.ensures.closed in
-    then_holds c.in-GaveUp.ensures.quiet.rest c.drop_staged-in-GaveUp.ensures.quiet.rest (λ not _. not may) (λ not _. not may)
-
-pub returns-in-Broken-clause-faults : goal.returns-in-Broken-clause-faults
-returns-in-Broken-clause-faults g c = grind arith
-
-pub returns-in-Broken-clause-same : goal.returns-in-Broken-clause-same
-returns-in-Broken-clause-same g c = grind arith
-
-pub returns-in-GaveUp-clause-faults : goal.returns-in-GaveUp-clause-faults
-returns-in-GaveUp-clause-faults g c = grind arith
-
-pub returns-in-GaveUp-clause-same : goal.returns-in-GaveUp-clause-same
-returns-in-GaveUp-clause-same g c = grind arith
-
-pub returns-in-GaveUp-clause-unstaged : goal.returns-in-GaveUp-clause-unstaged
-returns-in-GaveUp-clause-unstaged g c = grind arith
-
-pub returns-in-Lacking-clause-faults : goal.returns-in-Lacking-clause-faults
-returns-in-Lacking-clause-faults g c = grind arith
-
-pub returns-in-Lacking-clause-same : goal.returns-in-Lacking-clause-same
-returns-in-Lacking-clause-same g c = grind arith
+pub returns-in-Waits-clause-stands : goal.returns-in-Waits-clause-stands
+returns-in-Waits-clause-stands g c head has_length o readable len =
+    let r = c.in-Waits.ensures in
+    let took = c.receive.new in
+    let keeps = c.keep-kept.ensures in
+    let began = c.begin_staging.new.self.keeper in
+    let is_ok = c.is_err.ensures.value in
+    let held = λ (up : IsTrue c.is_upload-upload.result). part_first c.args.feed.now c.requires.none g.K.Keeper began c.new-sha.result (on_ok (g.K.Keeper.stages began []) c.is_err.result c.begin_staging.result is_ok c.if-is_err.false (c.begin_staging.ensures.staged up)) c.new-sha.ensures in
+    let waits = either_way c.is_upload-upload.result r.passes (λ up. (r.stages up (held up)).0) in
+    let begun = begun_from g.R.Read.remaining g.K.Keeper c.args.size c.args.feed.now took.feed c.args.foreseen o readable c.keep-kept.result c.is_upload-upload.result took.self.keeper took.sha waits c.is_upload-upload.ensures.0
+    (λ k at. keeps.some.1 (some_is c.keep-kept.result k at)) (λ up. (r.stages up (held up)).1) keeps.kept in
+    (short_head o len, rw (taken_all head len) begun)

@@ -10,7 +10,7 @@ use Rattle.office.proofs.office.Office.serve_feed.Goals as goal
 
 pub messages-init : goal.messages-init
 messages-init g c = (
-  (c.requires, λ fresh. refl),
+  (c.requires.begins, λ fresh. refl),
   refl,
   refl,
   refl,
@@ -21,27 +21,28 @@ messages-init g c = (
     record { means = kept.means; sound = kept.sound },
     follows_first g.C.Clock.now_gives (left g.R.Read.remaining c.args.feed.now) (g.W.Write.contents c.args.writer.now.inner) c.args.clock.now g.K.Keeper c.args.self.now.keeper s,
   ),
+  c.requires.free,
 )
 
 pub step-requires : goal.step-requires
 step-requires g c = c.messages.invariant.0.0
 
-pub returns-in-Some-clause-same : goal.returns-in-Some-clause-same
-returns-in-Some-clause-same g c = c.step.ensures.same ∙ c.messages.invariant.1
+pub returns-in-Done-Some-clause-same : goal.returns-in-Done-Some-clause-same
+returns-in-Done-Some-clause-same g c = c.step.ensures.same ∙ c.messages.invariant.1
 
-pub returns-in-Some-clause-serves : goal.returns-in-Some-clause-serves
-returns-in-Some-clause-serves g c s kept =
-    let x = c.messages.invariant.6 s (record { means = kept.means; is_honest = c.in-Some.ensures.rest.honest kept.is_honest; sound = kept.sound }) in
-    let h = c.in-Some.ensures.steps x.0 (record { means = x.1.means; is_honest = kept.is_honest; sound = x.1.sound }) in (
+pub returns-in-Done-Some-clause-serves : goal.returns-in-Done-Some-clause-serves
+returns-in-Done-Some-clause-serves g c s kept =
+    let x = c.messages.invariant.6 s (record { means = kept.means; is_honest = c.in-Done-Some.ensures.rest.honest kept.is_honest; sound = kept.sound }) in
+    let h = rw c.in-Done-Some.field-0-is at c.in-Done-Some.ensures.steps x.0 (record { means = x.1.means; is_honest = kept.is_honest; sound = x.1.sound }) in (
       h.0,
       h.1,
       follows_end g.C.Clock.now_gives c.messages.counter (left g.R.Read.remaining c.args.feed.now) (left g.R.Read.remaining c.messages.feed) (g.W.Write.contents c.args.writer.now.inner) (g.W.Write.contents c.messages.writer.inner) c.args.clock.now c.messages.clock g.K.Keeper c.args.self.now.keeper c.messages.self.keeper s x.0 x.2
-          (place_of c.messages.feed) (g.R.Read.remaining (reader_of c.step.new.feed).inner) (g.W.Write.contents c.step.new.writer.inner) c.step.new.clock c.step.new.self.keeper h.0 c.in-Some.end c.messages-test.true c.messages.invariant.0.1 h.2,
+          (place_of c.messages.feed) (g.R.Read.remaining (reader_of c.step.new.feed).inner) (g.W.Write.contents c.step.new.writer.inner) c.step.new.clock c.step.new.self.keeper h.0 c.in-Done-Some.end c.messages-test.true c.messages.invariant.0.1 h.2,
     )
 
-pub returns-in-Some-clause-faults : goal.returns-in-Some-clause-faults
-returns-in-Some-clause-faults g c =
-    let f = c.in-Some.ensures.faults in
+pub returns-in-Done-Some-clause-faults : goal.returns-in-Done-Some-clause-faults
+returns-in-Done-Some-clause-faults g c =
+    let f = rw c.in-Done-Some.field-0-is at c.in-Done-Some.ensures.faults in
     record {
       read = λ is. subst (λ (n : ℕ). Rose n (reader_of c.step.new.feed).faults) c.messages.invariant.2 (f.read is);
       not_read = λ other. f.not_read other ∙ c.messages.invariant.2;
@@ -50,22 +51,26 @@ returns-in-Some-clause-faults g c =
     }
 
 pub messages-preserved : goal.messages-preserved
-messages-preserved g c = (
-  (inr c.in-None.ensures.goes_on, λ fresh. absurd (not_fresh _ c.in-None.ensures.goes_on fresh)),
-  c.step.ensures.same ∙ c.messages.invariant.1,
-  c.in-None.ensures.faults.0 ∙ c.messages.invariant.2,
-  c.in-None.ensures.faults.1 ∙ c.messages.invariant.3,
-  holds_then c.messages.invariant.4 c.in-None.ensures.rest,
-  unstaged_then g.K.Keeper c.args.self.now.keeper c.messages.self.keeper c.step.new.self.keeper c.messages.invariant.5 c.messages.invariant.4.never_less c.step.ensures.unstaged c.in-None.ensures.rest.never_less,
-  λ s kept.
-      let x = c.messages.invariant.6 s (record { means = kept.means; is_honest = c.in-None.ensures.rest.honest kept.is_honest; sound = kept.sound }) in
-      let h = c.in-None.ensures.steps x.0 (record { means = x.1.means; is_honest = kept.is_honest; sound = x.1.sound }) in (
-        h.0,
-        h.1,
-        follows_more g.C.Clock.now_gives c.messages.counter (left g.R.Read.remaining c.args.feed.now) (left g.R.Read.remaining c.messages.feed) (g.W.Write.contents c.args.writer.now.inner) (g.W.Write.contents c.messages.writer.inner) c.args.clock.now c.messages.clock g.K.Keeper c.args.self.now.keeper c.messages.self.keeper s x.0 x.2
-            (left g.R.Read.remaining c.step.new.feed) (g.W.Write.contents c.step.new.writer.inner) c.step.new.clock c.step.new.self.keeper h.0 h.2,
-      ),
-)
+messages-preserved g c =
+    let on = rw c.in-Done-None.field-0-is at c.in-Done-None.ensures.goes_on in
+    let told = rw c.in-Done-None.field-0-is at c.in-Done-None.ensures.faults in
+    let rest = rw c.in-Done-None.field-0-is at c.in-Done-None.ensures.rest in (
+      (inr on.0, λ fresh. absurd (not_fresh _ on.0 fresh)),
+      c.step.ensures.same ∙ c.messages.invariant.1,
+      told.0 ∙ c.messages.invariant.2,
+      told.1 ∙ c.messages.invariant.3,
+      holds_then c.messages.invariant.4 rest,
+      unstaged_then g.K.Keeper c.args.self.now.keeper c.messages.self.keeper c.step.new.self.keeper c.messages.invariant.5 c.messages.invariant.4.never_less c.step.ensures.unstaged c.in-Done-None.ensures.rest.never_less,
+      λ s kept.
+          let x = c.messages.invariant.6 s (record { means = kept.means; is_honest = c.in-Done-None.ensures.rest.honest kept.is_honest; sound = kept.sound }) in
+          let h = rw c.in-Done-None.field-0-is at c.in-Done-None.ensures.steps x.0 (record { means = x.1.means; is_honest = kept.is_honest; sound = x.1.sound }) in (
+            h.0,
+            h.1,
+            follows_more g.C.Clock.now_gives c.messages.counter (left g.R.Read.remaining c.args.feed.now) (left g.R.Read.remaining c.messages.feed) (g.W.Write.contents c.args.writer.now.inner) (g.W.Write.contents c.messages.writer.inner) c.args.clock.now c.messages.clock g.K.Keeper c.args.self.now.keeper c.messages.self.keeper s x.0 x.2
+                (left g.R.Read.remaining c.step.new.feed) (g.W.Write.contents c.step.new.writer.inner) c.step.new.clock c.step.new.self.keeper h.0 h.2,
+          ),
+      c.in-Done-None.ensures.free c.messages.invariant.7,
+    )
 
 pub returns-clause-same : goal.returns-clause-same
 returns-clause-same g c = c.messages.invariant.1
@@ -87,16 +92,16 @@ returns-clause-faults g c = record {
   not_written = λ other. c.messages.invariant.3;
 }
 
-pub returns-in-Some-clause-rest : goal.returns-in-Some-clause-rest
-returns-in-Some-clause-rest g c =
+pub returns-in-Done-Some-clause-rest : goal.returns-in-Done-Some-clause-rest
+returns-in-Done-Some-clause-rest g c =
     holds_then c.messages.invariant.4
-    (holds_less (may_later g.K.Keeper c.args.self.now.keeper c.messages.self.keeper c.step.new.self.keeper c.in-Some.end c.messages.invariant.4.never_less) c.in-Some.ensures.rest)
+    (holds_less (may_later g.K.Keeper c.args.self.now.keeper c.messages.self.keeper c.step.new.self.keeper c.in-Done-Some.end c.messages.invariant.4.never_less) (rw c.in-Done-Some.field-0-is at c.in-Done-Some.ensures.rest))
 
 pub returns-clause-rest : goal.returns-clause-rest
 returns-clause-rest g c = holds_less (λ none. absurd none) c.messages.invariant.4
 
-pub returns-in-Some-clause-unstaged : goal.returns-in-Some-clause-unstaged
-returns-in-Some-clause-unstaged g c =
+pub returns-in-Done-Some-clause-unstaged : goal.returns-in-Done-Some-clause-unstaged
+returns-in-Done-Some-clause-unstaged g c =
     unstaged_then g.K.Keeper c.args.self.now.keeper c.messages.self.keeper c.step.new.self.keeper c.messages.invariant.5 c.messages.invariant.4.never_less c.step.ensures.unstaged c.step.ensures.rest.never_less
 
 pub returns-clause-unstaged : goal.returns-clause-unstaged

@@ -1,6 +1,7 @@
 use Rattle.std.proofs.Common.{◌≡◌}
 use Rattle.boxes.specs.State.{State}
 use Rattle.wire.specs.Feeds.{SameReader, left, place_of, reader_of}
+use Rattle.wire.specs.Waiting.{IsFree}
 use Rattle.wire.specs.Whole.{MayBegin}
 use Rattle.wire.specs.declared.feed.Place.TheVariants as place
 use Rattle.office.specs.Premise.{HoldsUnless, IsLeft, StaysUnstaged, WasKept}
@@ -19,3 +20,4 @@ invariant-messages g l =
     × Follows g.C.Clock.now_gives l.counter (left g.R.Read.remaining l.fn.feed) (left g.R.Read.remaining l.feed)
     (g.W.Write.contents l.fn.writer.inner) (g.W.Write.contents l.writer.inner) l.fn.clock l.clock
     g.K.Keeper l.fn.self.keeper l.self.keeper s mid)
+    × IsFree l.feed.backlog

@@ -1,15 +1,18 @@
 use Rattle.std.proofs.Common.{◌≡◌}
-use Rattle.office.proofs.StagedSoFar.{HasStaged}
-use Rattle.wire.proofs.Skipping.{to_come}
+use Rattle.wire.proofs.Skipping.{HasSkipped, to_come}
+use Rattle.wire.specs.Waiting.{IsFree}
 use Rattle.office.specs.Frames.{Quiet}
+use Rattle.office.specs.Receiving.{HoldsPart}
 use Rattle.office.proofs.office.Office.stage_body.Given as goal
 
 abbrev pub invariant-pieces : goal.invariant-pieces
 invariant-pieces g l = record {
-  staged : HasStaged g.R.Read.remaining l.size l.fn.feed l.feed g.K.Keeper l.self.keeper l.sha;
+  skipped : HasSkipped g.R.Read.remaining l.size l.fn.feed l.feed;
+  staged : HoldsPart g.K.Keeper l.fn.feed l.fn.self.keeper l.fn.sha → HoldsPart g.K.Keeper l.feed l.self.keeper l.sha;
   same : l.feed.reader.ghost_name ≡ l.fn.feed.reader.ghost_name;
   count : l.feed.reader.now.faults ≡ l.fn.feed.reader.now.faults;
   quiet : Quiet g.K.Keeper l.fn.self.keeper l.self.keeper ⊥;
+  free : IsFree l.fn.feed.backlog → IsFree l.feed.backlog;
 }
 
 abbrev pub decreases-pieces : goal.decreases-pieces

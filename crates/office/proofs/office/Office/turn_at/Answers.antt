@@ -12,7 +12,7 @@ returns-clause-turns g c s kept =
       c.turn_slot.new.slot,
       refl,
       subst (λ o. TurnsSlot g.C.Clock.now_gives g.R.Read.remaining g.W.Write.contents c.args.clock.now c.turn_slot.new.clock g.K.Keeper c.args.self.now.keeper c.turn_slot.new.self.keeper s h.0 o c.turn_slot.new.slot c.turn_slot.result.is_fault)
-          (sym (get_or_default c.args.slots.now c.args.index None c.index-slots-index.result c.requires)) h.2,
+          (sym (get_or_default c.args.slots.now c.args.due.index None c.index-slots-due.result c.requires)) h.2,
     )
 
 pub returns-clause-slot : goal.returns-clause-slot
@@ -27,5 +27,5 @@ returns-clause-unstaged g c = c.turn_slot.ensures.unstaged
 pub returns-clause-never_less : goal.returns-clause-never_less
 returns-clause-never_less g c = c.turn_slot.ensures.never_less
 
-pub offset_bounds-slots-index : goal.offset_bounds-slots-index
-offset_bounds-slots-index g c = search scaled_Fits
+pub offset_bounds-slots-due : goal.offset_bounds-slots-due
+offset_bounds-slots-due g c = search scaled_Fits

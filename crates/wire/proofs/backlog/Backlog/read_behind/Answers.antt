@@ -1,4 +1,4 @@
-use Rattle.std.proofs.Common.{◌≡◌, ◌<◌, ◌-◌, ◌+◌, ◌++◌, length, take, drop, ap, ◌∙◌, arith}
+use Rattle.std.proofs.Common.{◌≡◌, ◌<◌, ◌-◌, ◌+◌, ◌++◌, length, take, drop, ap, ◌∙◌, arith, inl}
 use Rattle.std.proofs.lemmas.Bool.Decides.{nat_tests}
 use Rattle.std.proofs.lemmas.List.{with_items_is, nil_from_length}
 use Rattle.wire.specs.Waiting.{waiting}
@@ -31,4 +31,4 @@ returns-in-Err-clause-fault g c =
     let value = c.deref_mut.ensures.value in
     let items = with_items_is b.bytes ys (omega (arith, c.read_at.auto.bytes, ap length value, b.bytes.ok.0)) in
     let fault = c.in-Err.ensures.fault in
-    (fault.0, ap (λ xs. take (b.end - b.start) (drop b.start xs)) items ∙ range_kept b.bytes.items ys b.start b.end c.requires.front (c.in-Err.ensures.kept ∙ ap (take b.end) value), fault.1)
+    (inl fault.0, ap (λ xs. take (b.end - b.start) (drop b.start xs)) items ∙ range_kept b.bytes.items ys b.start b.end c.requires.front (c.in-Err.ensures.kept ∙ ap (take b.end) value), fault.1)

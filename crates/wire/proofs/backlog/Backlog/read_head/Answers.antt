@@ -1,6 +1,8 @@
-use Rattle.std.proofs.Common.{◌≡◌, ◌<◌, ◌≤◌, ◌++◌, ℕ, List, length, take, arith, ap, sym, subst, ◌∙◌, lit≤, refl}
+use Rattle.std.proofs.Common.{◌≡◌, ◌<◌, ◌≤◌, ◌++◌, ℕ, Bool, Err, List, length, take, arith, ap, sym, subst, ◌∙◌, lit≤, refl}
 use Rattle.std.specs.Io.KnownBytes.{prepend_known}
-use Rattle.sigtext.specs.Counts.{Rose}
+use Rattle.wire.specs.Feeding.{CountsReads}
+use Rattle.wire.specs.declared.feed.Step.{Step}
+use Rattle.wire.proofs.Faults.{counts_same}
 use Rattle.wire.specs.Heads.{IsHeadEnd, HasNoHeadEnd}
 use Rattle.std.proofs.KnownBytes.{Keeps-refl}
 use Rattle.std.proofs.lemmas.List.{append-nil, nil_from_length}
@@ -11,7 +13,7 @@ use Rattle.wire.proofs.Backlogs.{still_none, in_window, still_searched, kept_gro
 use Rattle.wire.proofs.backlog.Backlog.read_head.Goals as goal
 
 pub reads-init : goal.reads-init
-reads-init g c = record { kept = Keeps-refl _; count = refl; room = c.requires; small = lit≤ tt; none = no_end_in_nothing }
+reads-init g c = record { kept = Keeps-refl _; count = refl; room = c.requires; small = lit≤ tt; none = no_end_in_nothing; free = λ h. h }
 
 pub head_end_behind-requires : goal.head_end_behind-requires
 head_end_behind-requires g c = in_window c.window.result.now (waiting c.reads.self) c.reads.searched c.window.ensures c.reads.invariant.small c.reads.invariant.none
@@ -29,11 +31,12 @@ reads-preserved g c =
     let searched : length size ≡ length old = ap length c.waiting-searched.ensures in
     record {
       kept = kept_grown first here there old bytes _ c.reads.invariant.kept consumed more;
-      count = c.in-Ok-true.ensures.count.ok ∙ c.reads.invariant.count;
+      count = c.in-Ok-true.ensures.count ∙ c.reads.invariant.count;
       room = c.read_more.ensures.room ∙ c.reads.invariant.room;
       small = omega (arith, short, searched);
       none = subst (λ (n : ℕ). HasNoHeadEnd (take n (waiting c.read_more.new.self))) (sym searched)
           (still_searched c.window.result.now old _ bytes c.window.ensures short more c.in_default.ensures.none);
+      free = λ h. (c.in-Ok-true.ensures.free (c.reads.invariant.free h)).0;
     }
 
 pub returns-in-Some : goal.returns-in-Some
@@ -41,7 +44,8 @@ returns-in-Some g c = record {
   shows = subst (λ (w : List ℕ). IsHeadEnd w c.in-Some.size) c.window.ensures c.in-Some.ensures.found;
   kept = c.reads.invariant.kept;
   fault = tt;
-  count = record { err = tt; ok = c.reads.invariant.count };
+  count = c.reads.invariant.count;
+  free = λ h. (c.reads.invariant.free h, tt);
   room = c.reads.invariant.room;
 }
 
@@ -50,7 +54,8 @@ returns-then-searched-ge-MOST_HEAD g c = record {
   shows = (refl, subst (λ (n : ℕ). 8192 ≤ n) (ap length c.waiting-searched.ensures) c.if-searched-ge-MOST_HEAD.true, subst HasNoHeadEnd c.window.ensures c.in_default.ensures.none);
   kept = c.reads.invariant.kept;
   fault = tt;
-  count = record { err = tt; ok = c.reads.invariant.count };
+  count = c.reads.invariant.count;
+  free = λ h. (c.reads.invariant.free h, tt);
   room = c.reads.invariant.room;
 }
 
@@ -68,7 +73,8 @@ returns-then-searched-eq0 g c =
       shows = (more ∙ ap (λ t. old ++ t) end.0 ∙ append-nil old ∙ empty, end.1);
       kept = kept_grown first here there old bytes _ c.reads.invariant.kept consumed more;
       fault = tt;
-      count = record { err = tt; ok = c.in-Ok-false.ensures.count.ok ∙ c.reads.invariant.count };
+      count = c.in-Ok-false.ensures.count ∙ c.reads.invariant.count;
+      free = λ h. ((c.in-Ok-false.ensures.free (c.reads.invariant.free h)).0, tt);
       room = c.read_more.ensures.room ∙ c.reads.invariant.room;
     }
 
@@ -88,7 +94,8 @@ returns-else-searched-eq0 g c =
       shows = (omega (arith, c.if-searched-eq0.false, ap length c.waiting-searched.ensures, ap length same), still.0, still.1, end.1);
       kept = kept_grown first here there old bytes _ c.reads.invariant.kept consumed more;
       fault = tt;
-      count = record { err = tt; ok = c.in-Ok-false.ensures.count.ok ∙ c.reads.invariant.count };
+      count = c.in-Ok-false.ensures.count ∙ c.reads.invariant.count;
+      free = λ h. ((c.in-Ok-false.ensures.free (c.reads.invariant.free h)).0, tt);
       room = c.read_more.ensures.room ∙ c.reads.invariant.room;
     }
 
@@ -105,7 +112,8 @@ returns-in-Err g c =
       shows = still_none c.window.result.now old _ c.window.ensures short same c.in_default.ensures.none;
       kept = kept_failed first here there old _ c.reads.invariant.kept kept same;
       fault = is_read;
-      count = record { err = subst (λ (n : ℕ). Rose n c.read_more.new.reader.faults) c.reads.invariant.count c.in-Err.ensures.count.err; ok = tt };
+      count = counts_same Bool (Step ℕ) c.in-Err.fault _ _ (subst (λ (n : ℕ). CountsReads {T = Bool} (Err c.in-Err.fault) n c.read_more.new.reader.faults) c.reads.invariant.count c.in-Err.ensures.count);
+      free = λ h. c.in-Err.ensures.free (c.reads.invariant.free h);
       room = c.read_more.ensures.room ∙ c.reads.invariant.room;
     }
 

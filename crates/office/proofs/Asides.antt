@@ -1,0 +1,146 @@
+-- Feeds that are resumed for a turn, and set aside after it.
+use Rattle.std.proofs.Common.{◌≡◌, ◌∙◌, ℕ, List, [], Option, None, Some, refl, sym, ap, subst, take}
+use Rattle.std.specs.Prelude.{◌≤◌, IsSomeAnd}
+use Rattle.std.specs.Io.KnownBytes.{Keeps, prepend_known}
+use Rattle.std.specs.Option.{ForSome}
+use Rattle.std.proofs.KnownBytes.{Keeps-refl, prepend_known-nil}
+use Rattle.sigtext.specs.Limits.{most_head}
+use Rattle.boxes.specs.State.{State}
+use Rattle.boxes.specs.declared.keep.Keeper.{Ghosts}
+use Rattle.wire.specs.Feeds.{ahead_of, given_before, given_of, left, place_of, reader_of, resumed_at, stood_at, waits_in, whole_left}
+use Rattle.wire.specs.Seats.{left_behind}
+use Rattle.wire.specs.Underways.{IsBegun, IsUnderway, head_of}
+use Rattle.wire.specs.declared.counted.Counted.{Counted}
+use Rattle.wire.specs.declared.feed.Feed.{Feed}
+use Rattle.wire.specs.declared.feed.Place.{Place}
+use Rattle.wire.specs.declared.feed.Place.TheVariants as place
+use Rattle.wire.specs.declared.session.SessionEnd.{SessionEnd}
+use Rattle.wire.specs.declared.standing.Standing.{Standing}
+use Rattle.wire.specs.declared.underway.Kept.{Kept}
+use Rattle.wire.specs.declared.underway.Underway.{Underway}
+use Rattle.wire.proofs.Ties.{none_is, some_is}
+use Rattle.office.specs.Connections.{MayGiveUp}
+use Rattle.office.specs.Premise.{HoldsUnless}
+use Rattle.office.specs.Resuming.{GoesOnFrom}
+use Rattle.office.specs.Stepping.{GoesOn, Steps, TellsStep, WaitsBehind}
+use Rattle.office.specs.Turning.{MayEndGivingUp, StandsAside, TellsAside, TurnsTo, turn_of}
+use Rattle.office.specs.declared.connections.resuming.Resumed.TheVariants as resumed
+use Rattle.office.specs.declared.connections.stepping.Begun.{Begun}
+use Rattle.office.specs.declared.connections.stepping.Stepped.TheVariants as stepped
+use Rattle.office.specs.declared.connections.turning.Aside.{Aside}
+
+-- nothing was given of an open body
+pub behind_none : (standing : Standing) (reader : Option (List ℕ)) → given_before standing ≡ [] → left_behind None standing reader ≡ prepend_known (ahead_of standing) reader
+behind_none standing reader none =
+    let rest = prepend_known (ahead_of standing) reader in
+    prepend_known-nil (prepend_known (given_before standing) rest) ∙ ap (λ (l : List ℕ). prepend_known l rest) none ∙ prepend_known-nil rest
+
+-- a feed, and one that was set aside with this reader, have the same bytes
+pub record HasSame {R : Type 0} (feed : Feed R) (standing : Standing) (reader : Counted R) : Type 0 where
+  pub ahead : waits_in feed ≡ ahead_of standing
+  pub given : given_of feed ≡ given_before standing
+  pub read_by : reader_of feed ≡ reader
+
+module _ {R : Type 0} (remaining : R → Option (List ℕ)) {feed : Feed R} {standing : Standing} {reader : Counted R} (x : HasSame feed standing reader) where
+  left_aside : left remaining feed ≡ prepend_known (ahead_of standing) (remaining reader.inner)
+  left_aside =
+      ap (λ (l : List ℕ). prepend_known l (remaining (reader_of feed).inner)) x.ahead
+      ∙ ap (λ (r : Counted R). prepend_known (ahead_of standing) (remaining r.inner)) x.read_by
+
+  -- between two messages
+  pub none_aside : given_of feed ≡ [] → left remaining feed ≡ left_behind None standing (remaining reader.inner)
+  none_aside none = left_aside ∙ sym (behind_none standing (remaining reader.inner) (sym x.given ∙ none))
+
+  -- within a body whose head is this text
+  begun_aside : (text : List ℕ) → prepend_known text (whole_left remaining feed) ≡ prepend_known text (prepend_known (given_before standing) (prepend_known (ahead_of standing) (remaining reader.inner)))
+  begun_aside text =
+      ap (prepend_known text)
+      (ap (λ (l : List ℕ). prepend_known l (left remaining feed)) x.given ∙ ap (prepend_known (given_before standing)) left_aside)
+
+  pub keeps_none : (known : Option (List ℕ)) → given_of feed ≡ [] → Keeps known (left remaining feed) → Keeps known (left_behind None standing (remaining reader.inner))
+  keeps_none known none keeps = subst (Keeps known) (none_aside none) keeps
+
+  pub keeps_begun : (known : Option (List ℕ)) (text : List ℕ) → Keeps known (prepend_known text (whole_left remaining feed))
+      → Keeps known (prepend_known text (prepend_known (given_before standing) (prepend_known (ahead_of standing) (remaining reader.inner))))
+  keeps_begun known text keeps = subst (Keeps known) (begun_aside text) keeps
+
+  -- a feed that was resumed has the bytes of the message under way
+  pub keeps_resumed : (u : Underway) → Keeps (left_behind (Some u) standing (remaining reader.inner)) (prepend_known (head_of u) (whole_left remaining feed))
+  keeps_resumed u =
+      subst (λ (known : Option (List ℕ)). Keeps known (prepend_known (head_of u) (whole_left remaining feed))) (begun_aside (head_of u)) (Keeps-refl (prepend_known (head_of u) (whole_left remaining feed)))
+
+-- a message is under way in the feed that was set aside
+pub underway_aside : {R : Type 0} (feed : Feed R) (standing : Standing) (u : Underway) → stood_at standing ≡ place_of feed → given_of feed ≡ given_before standing
+    → IsBegun (head_of u) u.size u.kept (place_of feed) (given_of feed) → IsUnderway u standing
+underway_aside feed standing u here given is =
+    subst (λ (p : Place). IsBegun (head_of u) u.size u.kept p (given_before standing)) (sym here)
+    (subst (λ (l : List ℕ). IsBegun (head_of u) u.size u.kept (place_of feed) l) given is)
+
+-- the same for a message that has just begun, and whose head is at the front of the block
+pub begun_aside_as : {R : Type 0} (feed : Feed R) (standing : Standing) (block : List ℕ) (b : Begun) (u : Underway) → u.text.value ≡ block → u.len ≡ b.len → u.size ≡ b.size → u.kept ≡ b.kept
+    → stood_at standing ≡ place_of feed → given_of feed ≡ given_before standing → IsBegun (take b.len block) b.size b.kept (place_of feed) (given_of feed) → IsUnderway u standing
+begun_aside_as feed standing block b u text len size kept here given is =
+    let head : take b.len block ≡ head_of u = ap (λ (n : ℕ). take n block) (sym len) ∙ ap (take u.len) (sym text) in
+    underway_aside feed standing u here given
+    (subst (λ (x : List ℕ). IsBegun x u.size u.kept (place_of feed) (given_of feed)) head
+    (subst (λ (n : ℕ). IsBegun (take b.len block) n u.kept (place_of feed) (given_of feed)) (sym size)
+    (subst (λ (o : Option Kept). IsBegun (take b.len block) b.size o (place_of feed) (given_of feed)) (sym kept) is)))
+
+-- a body that is open is open in a feed that is resumed
+pub resumed_begun : (head : List ℕ) (u : Underway) (p q : Place) (l m : List ℕ) → p ≡ resumed_at q → l ≡ m → IsBegun head u.size u.kept q m → IsBegun head u.size u.kept p l
+resumed_begun head u p q l m here given is =
+    subst (λ (l : List ℕ). IsBegun head u.size u.kept p l) (sym given)
+    (subst (λ (p : Place). IsBegun head u.size u.kept p m) (sym (here ∙ ap resumed_at is.stands ∙ sym is.stands)) is)
+
+-- ---- a step that is done
+
+module _ {C K R W : Type 0} (gives : C → ℕ → C → Type 0) (remaining : R → Option (List ℕ)) {feed : Feed R} {reader : Counted R} (writer writer' : Counted W) (contents : W → Option (List ℕ)) (clock clock' : C) (k : Ghosts K) (keeper keeper' : K) (s : State) where
+  pub turn_done : (known : Option (List ℕ)) (aside : Aside) (e : Option SessionEnd) → HasSame feed aside.standing reader → (e ≡ None → given_of feed ≡ [])
+      → Steps gives place.Between known (left remaining feed) (remaining (reader_of feed).inner) (contents writer.inner) (contents writer'.inner) clock clock' k keeper keeper' s e
+      → TurnsTo gives known remaining reader writer writer' contents clock clock' k keeper keeper' s aside (turn_of e)
+  turn_done known aside None x none steps =
+      subst (λ (l : Option (List ℕ)). Steps gives place.Between known l (remaining reader.inner) (contents writer.inner) (contents writer'.inner) clock clock' k keeper keeper' s None) (none_aside remaining x (none refl)) steps
+  turn_done known aside (Some e) x none steps =
+      subst (λ (r : Counted R). Steps gives place.Between known (left remaining feed) (remaining r.inner) (contents writer.inner) (contents writer'.inner) clock clock' k keeper keeper' s (Some e)) x.read_by steps
+
+pub stands_done : {R : Type 0} (feed : Feed R) (aside : Aside) (e : Option SessionEnd) → aside.underway ≡ None → stood_at aside.standing ≡ place_of feed → given_of feed ≡ given_before aside.standing
+    → (e ≡ None → (place_of feed ≡ place.Between) × (given_of feed ≡ [])) → StandsAside (turn_of e) aside
+stands_done feed aside None none here given goes = (none, here ∙ (goes refl).0, sym given ∙ (goes refl).1)
+stands_done feed aside (Some e) none here given goes = none
+
+-- the faults of a step, with equal readers
+pub tells_by : {R W : Type 0} (e : Option SessionEnd) (a a' b b' : Counted R) (x y : Counted W) → a ≡ a' → b ≡ b' → TellsStep e a b x y → TellsStep e a' b' x y
+tells_by e a a' b b' x y ea eb tells = subst (λ r. TellsStep e r b' x y) ea (subst (λ r. TellsStep e a r x y) eb tells)
+
+-- where the feed stands if the step did not end the session
+pub goes_none : {R : Type 0} (feed : Feed R) (e : Option SessionEnd) → GoesOn (stepped.Done e) feed → e ≡ None → (place_of feed ≡ place.Between) × (given_of feed ≡ [])
+goes_none feed e goes is = subst (λ (o : Option SessionEnd). GoesOn (stepped.Done o) feed) is goes
+
+pub goes_from : {R : Type 0} (feed : Feed R) (e : Option SessionEnd) → GoesOnFrom (resumed.Done e) feed → e ≡ None → (place_of feed ≡ place.Between) × (given_of feed ≡ [])
+goes_from feed e goes is = subst (λ (o : Option SessionEnd). GoesOnFrom (resumed.Done o) feed) is goes
+
+pub tells_done : {R W : Type 0} (e : Option SessionEnd) (a a' b b' : Counted R) (x y : Counted W) → a ≡ a' → b ≡ b' → TellsStep e a b x y → TellsAside (turn_of e) a' b' x y
+tells_done None a a' b b' x y ea eb tells = tells_by None a a' b b' x y ea eb tells
+tells_done (Some e) a a' b b' x y ea eb tells = tells_by (Some e) a a' b b' x y ea eb tells
+
+pub holds_done : {K : Type 0} (k : Ghosts K) (old new : K) (e : Option SessionEnd) → HoldsUnless k old new (IsSomeAnd e (MayGiveUp k old new)) → HoldsUnless k old new (MayEndGivingUp k old new (turn_of e))
+holds_done k old new None holds = holds
+holds_done k old new (Some e) holds = holds
+
+-- ---- a step that waits
+
+-- between two messages
+pub stands_none : {R : Type 0} (feed : Feed R) (standing : Standing) (underway : Option Underway) → underway ≡ None → stood_at standing ≡ place_of feed → given_of feed ≡ given_before standing
+    → (place_of feed ≡ place.Between) × (given_of feed ≡ []) → (underway ≡ None → (stood_at standing ≡ place.Between) × (given_before standing ≡ [])) × ForSome underway (λ u. IsUnderway u standing)
+stands_none feed standing underway none here given goes = (λ _. (here ∙ goes.0, sym given ∙ goes.1), λ u is. absurd (none_is u (sym none ∙ is)))
+
+-- within a body
+pub stands_begun : (standing : Standing) (u : Underway) → IsUnderway u standing → (Some u ≡ None → (stood_at standing ≡ place.Between) × (given_before standing ≡ [])) × ForSome (Some u) (λ v. IsUnderway v standing)
+stands_begun standing u begun = (λ none. absurd (none_is u (sym none)), λ v at. subst (λ (w : Underway). IsUnderway w standing) (some_is u v at) begun)
+
+pub none_there : {R : Type 0} (feed : Feed R) (block : List ℕ) (o : Option Begun) → o ≡ None → WaitsBehind feed block (stepped.Waits o) → (place_of feed ≡ place.Between) × (given_of feed ≡ [])
+none_there feed block o is waits = subst (λ (x : Option Begun). WaitsBehind feed block (stepped.Waits x)) is waits
+
+pub begun_there : {R : Type 0} (feed : Feed R) (block : List ℕ) (o : Option Begun) (b : Begun) → o ≡ Some b → WaitsBehind feed block (stepped.Waits o)
+    → (b.len ≤ most_head) × IsBegun (take b.len block) b.size b.kept (place_of feed) (given_of feed)
+begun_there feed block o b is waits = subst (λ (x : Option Begun). WaitsBehind feed block (stepped.Waits x)) is waits

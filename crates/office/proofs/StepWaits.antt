@@ -1,0 +1,60 @@
+-- Steps that may wait: what came before them, and where the head lies.
+use Rattle.std.proofs.Common.{◌≡◌, ◌∙◌, ◌≤◌, ◌++◌, ℕ, List, length, Option, None, Some, ap, subst, sym, take}
+use Rattle.std.proofs.Math.Seq.{take-append_seam}
+use Rattle.std.specs.Io.KnownBytes.{Keeps, prepend_known}
+use Rattle.boxes.specs.State.{State}
+use Rattle.boxes.specs.declared.keep.Keeper.{Ghosts}
+use Rattle.wire.specs.Feeds.{given_of, left, place_of, reader_of, whole_left}
+use Rattle.wire.specs.Underways.{IsBegun}
+use Rattle.wire.specs.declared.counted.Counted.{Counted}
+use Rattle.wire.specs.declared.feed.Feed.{Feed}
+use Rattle.wire.specs.declared.feed.Place.{Place}
+use Rattle.office.specs.Stepping.{HasHeadOf, MayHaveGivenUp, ReadsOn, StandsBy, StepsTo, WaitsBehind}
+use Rattle.office.specs.declared.connections.stepping.Begun.{Begun}
+use Rattle.office.specs.declared.connections.stepping.Stepped.{Stepped}
+use Rattle.office.specs.declared.connections.stepping.Stepped.TheVariants as stepped
+use Rattle.office.proofs.Endurance.{through_after}
+use Rattle.office.proofs.Unstaged.{some_may_later}
+use Rattle.office.proofs.SessionSteps.{Before, before_held, steps_after}
+
+-- the head lies at the front of the block
+read_in : {R : Type 0} (remaining : R → Option (List ℕ)) (known : Option (List ℕ)) (feed : Feed R) (head block : List ℕ) (len : ℕ) (begun : Option Begun) → take len block ≡ head → take len head ≡ head
+    → HasHeadOf len (stepped.Waits begun) → ReadsOn remaining known feed head begun → ReadsOn remaining known feed block begun
+read_in remaining known feed head block len None at all long r = r
+read_in remaining known feed head block len (Some b) at all long (short, is, kept) =
+    let same : take b.len head ≡ take b.len block = ap (λ (n : ℕ). take n head) long ∙ all ∙ sym at ∙ ap (λ (n : ℕ). take n block) (sym long) in (
+      short,
+      subst (λ (text : List ℕ). IsBegun text b.size b.kept (place_of feed) (given_of feed)) same is,
+      subst (λ (text : List ℕ). Keeps known (prepend_known text (whole_left remaining feed))) same kept,
+    )
+
+-- a feed that waits behind a head waits behind the block whose front it is
+pub waits_in_block : {R : Type 0} (feed : Feed R) (head block : List ℕ) (len : ℕ) (result : Stepped) → take len block ≡ head → take len head ≡ head → HasHeadOf len result → WaitsBehind feed head result → WaitsBehind feed block result
+waits_in_block feed head block len (stepped.Done e) at all long w = w
+waits_in_block feed head block len (stepped.Waits None) at all long w = w
+waits_in_block feed head block len (stepped.Waits (Some b)) at all long (short, is) =
+    let same : take b.len head ≡ take b.len block = ap (λ (n : ℕ). take n head) long ∙ all ∙ sym at ∙ ap (λ (n : ℕ). take n block) (sym long) in
+    (short, subst (λ (text : List ℕ). IsBegun text b.size b.kept (place_of feed) (given_of feed)) same is)
+
+module _ {C K R W : Type 0} (gives : C → ℕ → C → Type 0) (p : Place) (known : Option (List ℕ)) (remaining : R → Option (List ℕ)) (feed : Feed R) (writer writer' : Counted W) (contents : W → Option (List ℕ)) (clock clock' : C) (k : Ghosts K) where
+  pub steps_in : (keeper keeper' : K) (s : State) (head block : List ℕ) (len : ℕ) (result : Stepped) → take len block ≡ head → take len head ≡ head → HasHeadOf len result
+      → StepsTo gives p known remaining feed writer writer' contents clock clock' k keeper keeper' s head result → StepsTo gives p known remaining feed writer writer' contents clock clock' k keeper keeper' s block result
+  steps_in keeper keeper' s head block len (stepped.Done e) at all long steps = steps
+  steps_in keeper keeper' s head block len (stepped.Waits begun) at all long (r, w) = (read_in remaining known feed head block len begun at all long r, w)
+
+  -- after calls that left the state unchanged and did not give up
+  pub steps_later : (a b c : K) (s : State) (block : List ℕ) (result : Stepped) → Before k a b s
+      → StepsTo gives p known remaining feed writer writer' contents clock clock' k b c s block result → StepsTo gives p known remaining feed writer writer' contents clock clock' k a c s block result
+  steps_later a b c s block (stepped.Done e) before steps =
+      steps_after gives p known (left remaining feed) (remaining (reader_of feed).inner) (contents writer.inner) (contents writer'.inner) clock clock' k a b c s e before steps
+  steps_later a b c s block (stepped.Waits begun) before (r, w) =
+      (r, record { told = w.told; written = w.written; left = w.left; held = before_held k a b c s before w.held; lasts = through_after before.adds w.lasts })
+
+-- a text that was copied is at the front of the block
+pub copied_front : (text block behind : List ℕ) → block ≡ text ++ behind → take (length text) block ≡ text
+copied_front text block behind is = ap (take (length text)) is ∙ take-append_seam text behind
+
+-- a step that may have given up after an earlier call may have given up over both
+pub given_up_later : {K : Type 0} (k : Ghosts K) (a b c : K) (result : Stepped) → k.faults a ≤ k.faults b → MayHaveGivenUp k b c result → MayHaveGivenUp k a c result
+given_up_later k a b c (stepped.Done e) least may = some_may_later k a b c e least may
+given_up_later k a b c (stepped.Waits begun) least may = may
