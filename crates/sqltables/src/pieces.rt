@@ -1,16 +1,20 @@
 //! Reads the bytes of a file piece by piece, inside a transaction. The database need not mean an office.
 
-ghost use Rattle.std.specs.Prelude.{◌≡◌, ◌⊎◌, IsTrue, OnOk, IfOk};
+ghost use Rattle.std.specs.Prelude.{◌≡◌, ◌⊎◌, IsTrue, OnOk, IfOk, drop, length, take};
 ghost use Rattle.sqlite.specs.State.{HasCleanDisk};
 ghost use Rattle.sqltables.specs.Inside.{seen, GoesOnWhere, GoesOnBegun, SameOffice, OfWholeOffice};
 ghost use Rattle.sqltables.specs.Means.{IsRunning};
-ghost use Rattle.sqltables.specs.Pieces.{IsPieceAt, AreFound};
+ghost use Rattle.sqltables.specs.Pieces.{IsPieceAt, IsAppended, AreFound};
 ghost use Rattle.sqltables.specs.Tables.{placed};
 
 use crate::calls::Ledger;
 use crate::{MOST_BYTES, PIECE};
+use sqlite::types::ValueRef;
 use sqlite::{Error, ErrorCode, params};
 use std::alloc::Global;
+
+/// The query for one piece of a file.
+const SELECT_PIECE: &str = "SELECT bytes FROM pieces WHERE box = ?1 AND name = ?2 AND part = ?3";
 
 /// One piece of a file, if it exists.
 pub fn read_piece<T: Ledger>(
@@ -26,15 +30,40 @@ pub fn read_piece<T: Ledger>(
         → OnOk result ((seen T.view tx.new).in_transaction ≡ (seen T.view tx.old).in_transaction) }
     ensures rest { GoesOnBegun T.view tx.old tx.new result }
 {
-    let rows = tx.query(
-        "SELECT bytes FROM pieces WHERE box = ?1 AND name = ?2 AND part = ?3",
-        params![in_box, name, part],
-    )?;
+    let rows = tx.query(SELECT_PIECE, params![in_box, name, part])?;
     let Some(row) = rows.first() else {
         return Ok(None);
     };
     let piece: Vec<u8> = row.get(0)?;
     Ok(Some(piece))
+}
+
+/// Appends one piece of a file to these bytes, if it exists. Returns whether it does. It is copied once.
+fn append_piece<T: Ledger>(
+    tx: &mut T,
+    in_box: &str,
+    name: &str,
+    part: u32,
+    bytes: &mut Vec<u8>,
+) -> Result<bool, Error>
+    ensures added { OnOk result (take (length bytes.old.items) bytes.new.items ≡ bytes.old.items) }
+    ensures read { OfWholeOffice T.view tx.old tx.new
+        (IfOk result (IsAppended ((seen T.view tx.old).now.trees 9) (placed in_box.now name.now) part
+        (drop (length bytes.old.items) bytes.new.items))) }
+    ensures same { SameOffice T.view tx.old tx.new result }
+    ensures mode { HasCleanDisk (seen T.view tx.new)
+        → OnOk result ((seen T.view tx.new).in_transaction ≡ (seen T.view tx.old).in_transaction) }
+    ensures rest { GoesOnBegun T.view tx.old tx.new result }
+{
+    let rows = tx.query(SELECT_PIECE, params![in_box, name, part])?;
+    let Some(row) = rows.first() else {
+        return Ok(false);
+    };
+    let ValueRef::Blob(piece) = row.get_ref(0)? else {
+        return Err(Error::SqliteFailure(ErrorCode::DatabaseCorrupt));
+    };
+    bytes.extend_from_slice(piece)?;
+    Ok(true)
 }
 
 /// The bytes of a file of this size, if all its pieces exist. A piece with a wrong length is the error `DatabaseCorrupt`.
@@ -58,14 +87,15 @@ pub fn read_file<T: Ledger>(
     let mut bytes = Vec::with_capacity(alloc, size.min(MOST_BYTES as u64) as usize)?;
     let mut part: u32 = 0;
     while (bytes.len() as u64) < size {
-        let Some(piece) = read_piece(tx, in_box, name, part)? else {
+        let before = bytes.len();
+        let is_there = append_piece(tx, in_box, name, part, &mut bytes)?;
+        if !is_there {
             return Ok(None);
-        };
-        let rest = size - bytes.len() as u64;
-        if piece.len() as u64 != rest.min(PIECE as u64) {
+        }
+        let rest = size - before as u64;
+        if (bytes.len() - before) as u64 != rest.min(PIECE as u64) {
             return Err(Error::SqliteFailure(ErrorCode::DatabaseCorrupt));
         }
-        bytes.extend_from_slice(&piece)?;
         match part.checked_add(1) {
             Some(next) => part = next,
             None => return Err(Error::SqliteFailure(ErrorCode::TooBig)),

@@ -1,134 +1,45 @@
-use Rattle.std.proofs.Common.{◌≡◌, ◌+◌, ◌-◌, ◌<◌, ◌++◌, length, min, arith, rules, sym, ap, subst, subst₂, ◌∙◌, refl}
+use Rattle.std.proofs.Common.{◌≡◌, ◌+◌, ◌-◌, ◌<◌, ◌++◌, length, drop, min, arith, rules, sym, ap, subst, subst₂, ◌∙◌}
+use Rattle.std.proofs.lemmas.List.{take-append-drop, length-drop}
 use Rattle.boxes.specs.State.{Place}
 use Rattle.sqltables.specs.Inside.{seen}
 use Rattle.sqlite.specs.State.{HasCleanDisk}
-use Rattle.sqltables.specs.Pieces.{IsPieceAt}
-use Rattle.sqltables.proofs.Gathering.{Gathered, ReadsNext, OpensOurs, gathers, ours_at, whole_at, no_bytes, none_gathered}
-use Rattle.sqltables.proofs.GatheredCalls.{gathered_goes, gathered_then}
-use Rattle.sqltables.proofs.Onward.{failed, followed, succeeded}
+use Rattle.sqltables.specs.Pieces.{IsAppended}
+use Rattle.sqltables.proofs.Gathering.{Gathered, ReadsNext, OpensOurs, gathers, ours_at, whole_at, no_bytes}
 use Rattle.sqltables.proofs.pieces.read_file.Goals as goal
 
-pub loop-tx-init : goal.loop-tx-init
-loop-tx-init g c =
+pub loop-bytes-preserved : goal.loop-bytes-preserved
+loop-bytes-preserved g c =
     let place : Place = record { box = c.args.in_box.now; name = c.args.name.now } in
     let entry = seen g.T.Ledger.view c.args.tx.now in
-    (refl, subst (λ bytes. Gathered entry entry place c.args.size bytes 0) (sym c.in_ok-bytes.ensures.items) (none_gathered entry place c.args.size))
-
-pub loop-tx-preserved : goal.loop-tx-preserved
-loop-tx-preserved g c =
-    let place : Place = record { box = c.args.in_box.now; name = c.args.name.now } in
-    let entry = seen g.T.Ledger.view c.args.tx.now in
-    let mid = seen g.T.Ledger.view c.loop-tx.tx in
-    let now = seen g.T.Ledger.view c.read_piece.new.tx in
-    let bytes = c.loop-tx.bytes.items in
-    let piece = c.in-Some.piece.items in
-    let next : ReadsNext mid now place c.loop-tx.part piece = record {
-      read = λ v ours whole clean. subst (IsPieceAt (mid.now.trees 9) place c.loop-tx.part) c.in-Some.is (c.in_ok-piece.ensures.read v ours.version ours.schema whole ours.inside clean);
-      same = λ v ours clean. c.in_ok-piece.ensures.same v ours.version ours.schema ours.inside clean;
-      mode = c.in_ok-piece.ensures.mode;
-      running = λ clean inside. c.in_ok-piece.ensures.rest.running clean inside;
-      uncommitted = c.read_piece.ensures.rest.uncommitted;
-      survives = c.read_piece.ensures.rest.survives;
+    let mid = seen g.T.Ledger.view c.loop-bytes.tx in
+    let now = seen g.T.Ledger.view c.append_piece.new.tx in
+    let bytes = c.loop-bytes.bytes.items in
+    let after = c.append_piece.new.bytes.items in
+    let piece = drop (length bytes) after in
+    let next : ReadsNext mid now place c.loop-bytes.part piece = record {
+      read = λ v ours whole clean. subst (IsAppended (mid.now.trees 9) place c.loop-bytes.part piece) c.if-not-is_there.false (c.in_ok-is_there.ensures.read v ours.version ours.schema whole ours.inside clean);
+      same = λ v ours clean. c.in_ok-is_there.ensures.same v ours.version ours.schema ours.inside clean;
+      mode = c.in_ok-is_there.ensures.mode;
+      running = λ clean inside. c.in_ok-is_there.ensures.rest.running clean inside;
+      uncommitted = c.append_piece.ensures.rest.uncommitted;
+      survives = c.append_piece.ensures.rest.survives;
     } in
-    let count : c.in-Some-checked_add.next ≡ c.loop-tx.part + 1 = search rules in
-    let items : c.extend_from_slice.new.self.items ≡ bytes ++ piece = ◌∙◌ {b = bytes ++ c.deref.result.now} c.in_ok-extend_from_slice.ensures.items (ap (◌++◌ bytes) c.deref.ensures.value) in
-    let less : length bytes < c.args.size = subst (λ n. n < c.args.size) (c.len.ensures ∙ c.loop-tx.bytes.ok.0) c.loop-tx-test.true in
+    let count : c.in-Some.next ≡ c.loop-bytes.part + 1 = c.in-Some.ensures.1 in
+    let items : after ≡ bytes ++ piece = sym (take-append-drop (length bytes) after) ∙ ap (λ l. l ++ piece) c.in_ok-is_there.ensures.added in
+    let less : length bytes < c.args.size = subst (λ n. n < c.args.size) (c.len.ensures ∙ c.loop-bytes.bytes.ok.0) c.loop-bytes-test.true in
+    let more : length piece ≡ length after - length bytes = length-drop (length bytes) after in
     let fits : length piece ≡ min (c.args.size - length bytes) 65536 = search rules in
-    (c.read_piece.ensures.rest.same_reference ∙ c.loop-tx.invariant.0, subst₂ (Gathered entry now place c.args.size) (sym items) (sym count) (gathers entry mid now place c.args.size bytes piece c.loop-tx.part c.loop-tx.invariant.1 next less fits))
+    (c.append_piece.ensures.rest.same_reference ∙ c.loop-bytes.invariant.0, subst₂ (Gathered entry now place c.args.size) (sym items) (sym count) (gathers entry mid now place c.args.size bytes piece c.loop-bytes.part c.loop-bytes.invariant.1 next less fits))
 
-pub returns-in_default-clause-read : goal.returns-in_default-clause-read
-returns-in_default-clause-read g c v ours has whole inside clean =
+pub returns-then-not-is_there-clause-read : goal.returns-then-not-is_there-clause-read
+returns-then-not-is_there-clause-read g c v ours has whole inside clean =
     let place : Place = record { box = c.args.in_box.now; name = c.args.name.now } in
     let entry = seen g.T.Ledger.view c.args.tx.now in
-    let mid = seen g.T.Ledger.view c.loop-tx.tx in
-    let bytes = c.loop-tx.bytes.items in
+    let mid = seen g.T.Ledger.view c.loop-bytes.tx in
+    let bytes = c.loop-bytes.bytes.items in
     let first : OpensOurs v entry = record { version = ours; schema = has; inside = inside } in
-    let early : HasCleanDisk mid = omega (arith, clean, c.read_piece.ensures.rest.survives.clean) in
-    let now = ours_at entry mid place c.args.size bytes c.loop-tx.part c.loop-tx.invariant.1 v first early in
-    let none = subst (IsPieceAt (mid.now.trees 9) place c.loop-tx.part) c.in_default.is
-    (c.in_ok-piece.ensures.read v now.version now.schema (whole_at entry mid place c.args.size bytes c.loop-tx.part c.loop-tx.invariant.1 v first early whole) now.inside clean) in
-    no_bytes entry mid place c.args.size bytes c.loop-tx.part c.loop-tx.invariant.1 v first early (search rules) none
-
-pub returns-in_err-piece-clause-rest : goal.returns-in_err-piece-clause-rest
-returns-in_err-piece-clause-rest g c = failed c.from_residual-in_err-piece.result (gathered_then c.loop-tx.invariant.0 c.loop-tx.invariant.1 c.read_piece.ensures.rest) c.from_residual-in_err-piece.ensures.0
-
-pub returns-in_default-clause-rest : goal.returns-in_default-clause-rest
-returns-in_default-clause-rest g c = succeeded _ (gathered_then c.loop-tx.invariant.0 c.loop-tx.invariant.1 c.in_ok-piece.ensures.rest)
-
-pub returns-then-len-min-clause-rest : goal.returns-then-len-min-clause-rest
-returns-then-len-min-clause-rest g c = followed _ (gathered_then c.loop-tx.invariant.0 c.loop-tx.invariant.1 c.in_ok-piece.ensures.rest)
-
-pub returns-in_err-extend_from_slice-clause-rest : goal.returns-in_err-extend_from_slice-clause-rest
-returns-in_err-extend_from_slice-clause-rest g c = failed c.from_residual-in_err-extend_from_slice.result (gathered_then c.loop-tx.invariant.0 c.loop-tx.invariant.1 c.in_ok-piece.ensures.rest) c.from_residual-in_err-extend_from_slice.ensures.0
-
-pub returns-in-None-clause-rest : goal.returns-in-None-clause-rest
-returns-in-None-clause-rest g c = followed _ (gathered_then c.loop-tx.invariant.0 c.loop-tx.invariant.1 c.in_ok-piece.ensures.rest)
-
-pub returns-clause-rest : goal.returns-clause-rest
-returns-clause-rest g c = gathered_goes c.loop-tx.invariant.0 c.loop-tx.invariant.1 _
-
-pub loop-tx-smaller : goal.loop-tx-smaller
-loop-tx-smaller g c = grind arith
-
-pub overflow_sub-rest : goal.overflow_sub-rest
-overflow_sub-rest g c = grind arith
-
-pub returns-clause-mode : goal.returns-clause-mode
-returns-clause-mode g c = grind arith
-
-pub returns-clause-opened : goal.returns-clause-opened
-returns-clause-opened g c = grind arith
-
-pub returns-clause-read : goal.returns-clause-read
-returns-clause-read g c = grind arith
-
-pub returns-clause-same : goal.returns-clause-same
-returns-clause-same g c = grind arith
-
-pub returns-in-None-clause-mode : goal.returns-in-None-clause-mode
-returns-in-None-clause-mode g c = grind arith
-
-pub returns-in-None-clause-opened : goal.returns-in-None-clause-opened
-returns-in-None-clause-opened g c = grind arith
-
-pub returns-in-None-clause-read : goal.returns-in-None-clause-read
-returns-in-None-clause-read g c = grind arith
-
-pub returns-in-None-clause-same : goal.returns-in-None-clause-same
-returns-in-None-clause-same g c = grind arith
-
-pub returns-in_default-clause-mode : goal.returns-in_default-clause-mode
-returns-in_default-clause-mode g c = grind arith
-
-pub returns-in_default-clause-opened : goal.returns-in_default-clause-opened
-returns-in_default-clause-opened g c = grind arith
-
-pub returns-in_default-clause-same : goal.returns-in_default-clause-same
-returns-in_default-clause-same g c = grind arith
-
-pub returns-in_err-bytes-clause-mode : goal.returns-in_err-bytes-clause-mode
-returns-in_err-bytes-clause-mode g c = grind arith
-
-pub returns-in_err-bytes-clause-opened : goal.returns-in_err-bytes-clause-opened
-returns-in_err-bytes-clause-opened g c = grind arith
-
-pub returns-in_err-bytes-clause-read : goal.returns-in_err-bytes-clause-read
-returns-in_err-bytes-clause-read g c = grind arith
-
-pub returns-in_err-bytes-clause-rest : goal.returns-in_err-bytes-clause-rest
-returns-in_err-bytes-clause-rest g c = grind arith
-
-pub returns-in_err-bytes-clause-same : goal.returns-in_err-bytes-clause-same
-returns-in_err-bytes-clause-same g c = grind arith
-
-pub returns-then-len-min-clause-mode : goal.returns-then-len-min-clause-mode
-returns-then-len-min-clause-mode g c = grind arith
-
-pub returns-then-len-min-clause-opened : goal.returns-then-len-min-clause-opened
-returns-then-len-min-clause-opened g c = grind arith
-
-pub returns-then-len-min-clause-read : goal.returns-then-len-min-clause-read
-returns-then-len-min-clause-read g c = grind arith
-
-pub returns-then-len-min-clause-same : goal.returns-then-len-min-clause-same
-returns-then-len-min-clause-same g c = grind arith
+    let early : HasCleanDisk mid = omega (arith, clean, c.append_piece.ensures.rest.survives.clean) in
+    let now = ours_at entry mid place c.args.size bytes c.loop-bytes.part c.loop-bytes.invariant.1 v first early in
+    let none = subst (IsAppended (mid.now.trees 9) place c.loop-bytes.part _) c.if-not-is_there.true
+    (c.in_ok-is_there.ensures.read v now.version now.schema (whole_at entry mid place c.args.size bytes c.loop-bytes.part c.loop-bytes.invariant.1 v first early whole) now.inside clean) in
+    no_bytes entry mid place c.args.size bytes c.loop-bytes.part c.loop-bytes.invariant.1 v first early (search rules) none

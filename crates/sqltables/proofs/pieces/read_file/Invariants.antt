@@ -3,10 +3,10 @@ use Rattle.sqltables.specs.Inside.{seen}
 use Rattle.sqltables.proofs.Gathering.{Gathered}
 use Rattle.sqltables.proofs.pieces.read_file.Given as goal
 
-abbrev pub invariant-loop-tx : goal.invariant-loop-tx
-invariant-loop-tx g l =
+abbrev pub invariant-loop-bytes : goal.invariant-loop-bytes
+invariant-loop-bytes g l =
     ((g.T.Ledger.view l.tx).name ≡ (g.T.Ledger.view l.fn.tx).name)
     × Gathered (seen g.T.Ledger.view l.fn.tx) (seen g.T.Ledger.view l.tx) (record { box = l.in_box; name = l.name }) l.size l.bytes.items l.part
 
-abbrev pub decreases-loop-tx : goal.decreases-loop-tx
-decreases-loop-tx g l = l.size - length l.bytes.items
+abbrev pub decreases-loop-bytes : goal.decreases-loop-bytes
+decreases-loop-bytes g l = l.size - length l.bytes.items
