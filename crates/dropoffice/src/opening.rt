@@ -25,9 +25,10 @@ use std::io::ErrorKind;
 /// bytes again and computes their checksum.
 const SERVED_PAGES: usize = 16_384;
 
-/// While an office is served, the log is copied into the file once it has this many pages, each with 24 bytes before it: 64 MB.
-/// Pages that are written often, like the totals of a box, are then copied once per thousands of uploads, not once per hundred.
-const SERVED_FRAMES: usize = 16_384;
+/// While an office is served, the log is copied into the file once it has this many pages, each with 24 bytes before it: 16 MB.
+/// Pages that are written often, like the totals of a box, are then copied once per hundreds of uploads. No other request is
+/// answered meanwhile, so the log is not longer.
+const SERVED_FRAMES: usize = 4096;
 
 /// While an office is served, a transaction that has written this many pages (2 MB) writes further pages to the log at once,
 /// not only at its commit. An upload of 8 MiB then takes less memory, and is as fast.
