@@ -2,7 +2,7 @@
 use Rattle.std.proofs.Common.{◌≡◌, ◌<◌, ℕ, Bool, List, [], ◌++◌, length, Option, Result, Err, inl, inr, arith, refl, ap, subst, ◌∙◌}
 use Rattle.std.specs.Io.KnownBytes.{Consumes, Keeps, prepend_known}
 use Rattle.std.proofs.KnownBytes.{Consumes-kept, prepend_known-nil}
-use Rattle.wire.specs.Feeding.{AnnouncesBody, Awaits, a_body, Finds, GivesStep, place_after, told, Opens}
+use Rattle.wire.specs.Feeding.{AnnouncesBody, Awaits, AwaitsHead, a_body, Finds, GivesStep, place_after, told, Opens}
 use Rattle.wire.specs.Whole.{BreaksOff, MayBegin}
 use Rattle.wire.specs.declared.fault.WireFault.{WireFault}
 use Rattle.wire.specs.declared.fault.WireFault.TheVariants as fault
@@ -60,3 +60,22 @@ pub broken_by : (p q : Place) (f : WireFault) (known reader : Option (List ℕ))
     → GivesStep p known (told result) q waits reader → BreaksOff f p known (prepend_known waits reader) reader q
 broken_by p q f known reader waits result is m s =
     broken_there p q f known reader waits m (subst (λ (r : Result (Step Opening) WireFault). GivesStep p known (told r) q waits reader) is s)
+
+-- ---- no more bytes may be read where a message may begin
+
+-- the bytes that wait are less than a head
+awaited_there : (p q : Place) (known reader : Option (List ℕ)) (waits : List ℕ) → MayBegin p → GivesStep p known (Err fault.Waits) q waits reader → AwaitsHead waits
+awaited_there place.Fresh q known reader waits m (at, inl x) = x.0
+awaited_there place.Fresh q known reader waits m (at, inr (e, none, kept)) = absurd cc
+awaited_there place.Between q known reader waits m s = s.1.0
+awaited_there (place.Body k) q known reader waits (inl e) s = absurd (fresh k e)
+awaited_there (place.Body k) q known reader waits (inr e) s = absurd (between k e)
+awaited_there place.Over q known reader waits (inl e) s = absurd (over_fresh e)
+awaited_there place.Over q known reader waits (inr e) s = absurd (over_between e)
+
+-- the same for what a call told
+pub awaited_by : (p q : Place) (f : WireFault) (known reader : Option (List ℕ)) (waits : List ℕ) (result : Result (Step Opening) WireFault) → result ≡ Err f → f ≡ fault.Waits → MayBegin p
+    → GivesStep p known (told result) q waits reader → AwaitsHead waits
+awaited_by p q f known reader waits result is put_off m s =
+    let told_so : result ≡ Err fault.Waits = is ∙ ap Err put_off in
+    awaited_there p q known reader waits m (subst (λ (r : Result (Step Opening) WireFault). GivesStep p known (told r) q waits reader) told_so s)

@@ -26,3 +26,4 @@ pub mod Ends
 pub mod Standings
 pub mod Ties
 pub mod WholeHeads
+pub mod Spending

@@ -1,5 +1,5 @@
 -- Connections among others, and what is done to them between two turns.
-use Rattle.std.specs.Prelude.{◌≡◌, ℕ, List, [], Option, None}
+use Rattle.std.specs.Prelude.{◌≡◌, ℕ, List, [], ◌++◌, Option, None}
 use Rattle.std.specs.Io.KnownBytes.{Keeps, prepend_known}
 use Rattle.wire.specs.Feeds.{ahead_of, given_before, stood_at}
 use Rattle.wire.specs.Underways.{begun_by}
@@ -11,6 +11,13 @@ use Rattle.wire.specs.declared.underway.Underway.{Underway}
 -- set aside has read and not taken; those that the reader has.
 abbrev pub left_behind : Option Underway → Standing → Option (List ℕ) → Option (List ℕ)
 left_behind underway standing reader = prepend_known (begun_by underway) (prepend_known (given_before standing) (prepend_known (ahead_of standing) reader))
+
+-- the bytes that came of the message that is to be answered next
+abbrev pub came_behind : Option Underway → Standing → List ℕ
+came_behind underway standing = begun_by underway ++ (given_before standing ++ ahead_of standing)
+
+abbrev pub came_of : {R W : Type 0} → Seat R W → List ℕ
+came_of seat = came_behind seat.underway seat.standing
 
 -- what is left of a connection's stream
 abbrev pub left_of : {R W : Type 0} → (R → Option (List ℕ)) → Seat R W → Option (List ℕ)

@@ -1,5 +1,5 @@
 -- The bytes in a `Backlog`, and what they show of the stream.
-use Rattle.std.specs.Prelude.{◌≡◌, ◌≢◌, ◌⊎◌, Bool, true, false, ℕ, ◌-◌, ◌<◌, ◌≤◌, List, [], ◌++◌, length, take, slice_range, Option, None, Result, IfErr, Ok, Err}
+use Rattle.std.specs.Prelude.{◌≡◌, ◌≢◌, ◌⊎◌, Bool, true, false, ℕ, ◌+◌, ◌-◌, ◌<◌, ◌≤◌, List, [], ◌++◌, length, take, slice_range, Option, None, Some, Result, IfErr, Ok, Err, ⊤}
 use Rattle.std.specs.Io.KnownBytes.{Consumes, IsAtEnd, Keeps}
 use Rattle.sigtext.specs.Limits.{most_head}
 use Rattle.wire.specs.Heads.{IsHeadEnd, HasNoHeadEnd}
@@ -40,6 +40,25 @@ IsFree b = b.most ≡ None
 -- where bytes may be read without end, it stays so, and no read is put off
 abbrev pub StaysFree : {T : Type 0} → Backlog → Backlog → Result T WireFault → Type 0
 StaysFree old new result = IsFree old → IsFree new × IfErr result (λ f. f ≢ fault.Waits)
+
+-- So many bytes may be read before, and so many after, without end if there is no number. In between, as many
+-- bytes came at least as the number fell by. known and known': what the reader had before and after.
+abbrev pub Spends : Option ℕ → Option ℕ → Option (List ℕ) → Option (List ℕ) → Type 0
+Spends None None known known' = ⊤
+Spends None (Some n) known known' = ⊥
+Spends (Some m) None known known' = ⊥
+Spends (Some m) (Some n) known known' = (came : List ℕ) × Consumes known known' came × (m ≤ n + length came)
+
+-- The same for two backlogs and the reader that the bytes came from. A read is put off only if no more bytes may
+-- be read then.
+abbrev pub SpendsFrom : {R T : Type 0} → (R → Option (List ℕ)) → Backlog → Backlog → Counted R → Counted R → Result T WireFault → Type 0
+SpendsFrom remaining old new reader rest result =
+    Spends old.most new.most (remaining reader.inner) (remaining rest.inner) × IfErr result (λ f. f ≡ fault.Waits → new.most ≡ Some 0)
+
+-- All the bytes came that may be read: there is a number of them, and no fewer came.
+abbrev pub TakesAll : Option ℕ → Option (List ℕ) → Option (List ℕ) → Type 0
+TakesAll None known known' = ⊥
+TakesAll (Some m) known known' = (came : List ℕ) × Consumes known known' came × (m ≤ length came)
 
 -- The read failed with f, or was put off: no byte came, and no byte is lost.
 abbrev pub FailsToAdd : {R : Type 0} → (R → Option (List ℕ)) → WireFault → Backlog → Backlog → Counted R → Counted R → Type 0

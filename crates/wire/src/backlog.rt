@@ -1,5 +1,5 @@
 //! A buffer of bytes that were read ahead.
-ghost use Rattle.std.specs.Prelude.{◌≡◌, ◌↔◌, ◌≤◌, ◌<◌, ◌-◌, ◌+◌, ℕ, List, [], ◌++◌, true, false, length, take, drop, vec_len, IfOk, IfErr, IsTrue, None, OnErr, OnOk};
+ghost use Rattle.std.specs.Prelude.{◌≡◌, ◌↔◌, ◌≤◌, ◌<◌, ◌-◌, ◌+◌, ℕ, List, [], ◌++◌, true, false, length, take, drop, option_map, vec_len, IfOk, IfErr, IsTrue, None, OnErr, OnOk};
 ghost use Rattle.std.specs.Io.KnownBytes.{Consumes, IsAtEnd, Keeps, prepend_known};
 ghost use Rattle.sigtext.specs.Limits.{most_head};
 ghost use Rattle.sigtext.specs.Counts.{CountsErrors};
@@ -32,7 +32,7 @@ pub struct Backlog {
 }
 
 impl Backlog {
-    ghost use Rattle.wire.specs.Waiting.{Shows, taken, waiting, AddsFrom, FailsToAdd, IsFree, IsOfReading, StaysFree};
+    ghost use Rattle.wire.specs.Waiting.{Shows, taken, waiting, AddsFrom, FailsToAdd, IsFree, IsOfReading, SpendsFrom, StaysFree};
 
     /// An empty backlog without a buffer.
     pub fn new(alloc: Global) -> Backlog
@@ -148,6 +148,7 @@ impl Backlog {
         ensures fault { IfErr result (λ f. FailsToAdd R.remaining f self.old self.new reader.old reader.new) }
         ensures count { CountsReads result reader.old.faults reader.new.faults }
         ensures free { StaysFree self.old self.new result }
+        ensures spends { SpendsFrom R.remaining self.old self.new reader.old reader.new result }
         ensures room { vec_len self.new.bytes ≡ vec_len self.old.bytes }
     {
         if matches!(self.most, Some(0)) {
@@ -180,6 +181,7 @@ impl Backlog {
         ensures fault { IfErr result (λ f. FailsToAdd R.remaining f self.old self.new reader.old reader.new) }
         ensures count { CountsReads result reader.old.faults reader.new.faults }
         ensures free { StaysFree self.old self.new result }
+        ensures spends { SpendsFrom R.remaining self.old self.new reader.old reader.new result }
         ensures room { vec_len self.new.bytes ≡ vec_len self.old.bytes }
     {
         match read_at(&mut self.bytes, self.end, reader) {
@@ -208,6 +210,7 @@ impl Backlog {
         ensures fault { IfErr result IsOfReading }
         ensures count { CountsReads result reader.old.faults reader.new.faults }
         ensures free { StaysFree self.old self.new result }
+        ensures spends { SpendsFrom R.remaining self.old self.new reader.old reader.new result }
         ensures room { vec_len self.new.bytes ≡ ROOM }
     {
         let mut searched = 0;
@@ -236,7 +239,8 @@ impl Backlog {
 
 // How many more bytes may be read after n more were read.
 fn lessened(most: Option<usize>, n: usize) -> Option<usize>
-    ensures { most ≡ None → result ≡ None }
+    ensures free { most ≡ None → result ≡ None }
+    ensures less { result ≡ option_map (λ m. m - n) most }
 {
     match most {
         Some(most) => Some(most.saturating_sub(n)),

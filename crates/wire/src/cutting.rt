@@ -1,7 +1,7 @@
 //! Cutting heads and pieces from the bytes that were read ahead.
 ghost use Rattle.std.specs.Prelude.{◌≡◌, ◌≤◌, ◌<◌, [], ◌++◌, length, vec_len, IfErr, IfOk};
 ghost use Rattle.std.specs.Io.KnownBytes.{Consumes, IsAtEnd, Keeps, prepend_known};
-ghost use Rattle.wire.specs.Waiting.{IsOfReading, StaysFree, taken, waiting};
+ghost use Rattle.wire.specs.Waiting.{IsOfReading, SpendsFrom, StaysFree, taken, waiting};
 ghost use Rattle.wire.specs.Feeding.{CountsReads, Finds, told};
 ghost use Rattle.wire.specs.Openings.{OpensWith};
 
@@ -32,6 +32,7 @@ pub fn find<'t, R: Read>(
     ensures room { vec_len backlog.new.bytes ≡ ROOM }
     ensures count { CountsReads result reader.old.faults reader.new.faults }
     ensures free { StaysFree backlog.old backlog.new result }
+    ensures spends { SpendsFrom R.remaining backlog.old backlog.new reader.old reader.new result }
 {
     match backlog.read_head(reader) {
         Ok(Step::Head(size)) => {
@@ -75,6 +76,7 @@ pub fn cut_piece<R: Read>(
     ensures room { vec_len backlog.new.bytes ≡ ROOM }
     ensures count { CountsReads result reader.old.faults reader.new.faults }
     ensures free { StaysFree backlog.old backlog.new result }
+    ensures spends { SpendsFrom R.remaining backlog.old backlog.new reader.old reader.new result }
 {
     if !backlog.waiting().is_empty() {
         return Ok(take_some(backlog, to_come));

@@ -116,7 +116,7 @@ pub struct Feed<'r, R> {
 
 impl<'r, R: Read> Feed<'r, R> {
     ghost use Rattle.wire.specs.contracts.feed.Feed.{the_row};
-    ghost use Rattle.wire.specs.Feeds.{GivesOn, SameReader, ahead_of, given_before, given_of, left, place_of, reader_of, resumed_at, stood_at, waits_in};
+    ghost use Rattle.wire.specs.Feeds.{GivesOn, SameReader, SpendsIn, ahead_of, given_before, given_of, left, place_of, reader_of, resumed_at, stood_at, waits_in};
     ghost use Rattle.wire.specs.Waiting.{IsFree};
 
     /// Reads nothing and takes no memory.
@@ -213,6 +213,7 @@ impl<'r, R: Read> Feed<'r, R> {
         ensures count { CountsReads result (reader_of self.old).faults (reader_of self.new).faults }
         ensures given { given_of self.new ≡ [] }
         ensures free { StaysFree self.old.backlog self.new.backlog result }
+        ensures spends { SpendsIn R.remaining self.old self.new result }
     {
         self.given = Log::new();
         match self.place {
@@ -250,7 +251,8 @@ impl<'r, R: Read> Feed<'r, R> {
             (place_of new) (waits_in new) (R.remaining (reader_of new).inner)
             × CountsReads result (reader_of self.old).faults (reader_of new).faults
             × GivesOn (given_of self.old) (part result) (given_of new)
-            × StaysFree self.old.backlog new.backlog result)) }
+            × StaysFree self.old.backlog new.backlog result
+            × SpendsIn R.remaining self.old new result)) }
     {
         Ok(match self.go_on()? {
             Piece::Bytes(size) => Piece::Bytes(self.backlog.taken(size)),
@@ -269,6 +271,7 @@ impl<'r, R: Read> Feed<'r, R> {
         ensures count { CountsReads result (reader_of self.old).faults (reader_of self.new).faults }
         ensures given { GivesOn (given_of self.old) (taken_from self.new.backlog result) (given_of self.new) }
         ensures free { StaysFree self.old.backlog self.new.backlog result }
+        ensures spends { SpendsIn R.remaining self.old self.new result }
     {
         let Place::Body(to_come) = self.place else {
             self.given = Log::new();

@@ -1,7 +1,7 @@
 //! Heads that are copied out of a feed, and bodies that are skipped.
 ghost use Rattle.std.specs.Prelude.{◌≡◌, ℕ, List, [], IfErr, IfOk, Ok};
-ghost use Rattle.wire.specs.Feeding.{CountsReads};
-ghost use Rattle.wire.specs.Feeds.{SameReader, given_of, left, place_of, reader_of};
+ghost use Rattle.wire.specs.Feeding.{AwaitsHead, CountsReads};
+ghost use Rattle.wire.specs.Feeds.{SameReader, SpendsIn, given_of, left, place_of, reader_of, waits_in};
 ghost use Rattle.wire.specs.Waiting.{StaysFree};
 ghost use Rattle.wire.specs.Whole.{BreaksOff, BreaksOffBody, Brings, LacksBody, MayBegin, StandsIn, TakesBody};
 
@@ -51,9 +51,11 @@ pub fn read_opening<'t, R: Read>(
     ensures fault { IfErr result
         (λ f. BreaksOff f (place_of feed.old) (left R.remaining feed.old)
         (left R.remaining feed.new) (R.remaining (reader_of feed.new).inner) (place_of feed.new)) }
+    ensures waits { IfErr result (λ f. f ≡ WireFault.Waits → AwaitsHead (waits_in feed.new)) }
     ensures count { CountsReads result (reader_of feed.old).faults (reader_of feed.new).faults }
     ensures given { given_of feed.new ≡ [] }
     ensures free { StaysFree feed.old.backlog feed.new.backlog result }
+    ensures spends { SpendsIn R.remaining feed.old feed.new result }
 {
     match feed.next(text, fields) {
         Ok(Step::Head(opening)) => Ok(Came::Head(opening)),
@@ -76,6 +78,7 @@ pub fn skip_body<R: Read>(feed: &mut Feed<'_, R>, size: usize) -> Result<Ending,
     ensures fault { IfErr result (λ f. BreaksOffBody R.remaining size feed.old feed.new f) }
     ensures count { CountsReads result (reader_of feed.old).faults (reader_of feed.new).faults }
     ensures free { StaysFree feed.old.backlog feed.new.backlog result }
+    ensures spends { SpendsIn R.remaining feed.old feed.new result }
 {
     'pieces: loop {
         match feed.piece() {

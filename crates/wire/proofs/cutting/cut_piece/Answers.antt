@@ -1,10 +1,11 @@
-use Rattle.std.proofs.Common.{refl, ◌∙◌, arith}
+use Rattle.std.proofs.Common.{Option, ℕ, refl, subst, sym, ◌∙◌, arith}
 use Rattle.std.specs.Io.KnownBytes.{prepend_known}
 use Rattle.std.proofs.KnownBytes.{Keeps-refl}
 use Rattle.std.proofs.lemmas.Grind.{common_steps}
-use Rattle.wire.specs.Waiting.{taken, waiting}
+use Rattle.wire.specs.Waiting.{Spends, taken, waiting}
 use Rattle.wire.proofs.Backlogs.{kept_grown}
 use Rattle.wire.proofs.ReadAhead.{not_empty, empty, gave, consumes_later, at_end}
+use Rattle.wire.proofs.Spending.{spends_same}
 use Rattle.wire.proofs.cutting.cut_piece.Goals as goal
 
 pub returns : goal.returns
@@ -25,6 +26,7 @@ returns g c =
       room = part.room ∙ c.read_more.ensures.room ∙ c.requires.room;
       count = c.in_ok-read_more.ensures.count;
       free = λ h. (part.kept ∙ (c.in_ok-read_more.ensures.free h).0, tt);
+      spends = (subst (λ (o : Option ℕ). Spends c.args.backlog.now.most o r s) (sym part.kept) c.in_ok-read_more.ensures.spends.0, tt);
     }
 
 pub returns-then-not-is_empty : goal.returns-then-not-is_empty
@@ -41,6 +43,7 @@ returns-then-not-is_empty g c =
       room = part.room ∙ c.requires.room;
       count = refl;
       free = λ h. (part.kept ∙ h, tt);
+      spends = (subst (λ (o : Option ℕ). Spends c.args.backlog.now.most o r r) (sym part.kept) (spends_same c.args.backlog.now.most r), tt);
     }
 
 pub read_more-requires : goal.read_more-requires

@@ -6,7 +6,7 @@ use Rattle.wire.specs.Framing.{IsFront, Next, Refused, Ended, Truncated}
 use Rattle.wire.specs.Framing as next
 use Rattle.wire.specs.Judging.{HeadAnnounces}
 use Rattle.wire.specs.Openings.{ArePartsOf}
-use Rattle.wire.specs.Waiting.{Shows, waiting}
+use Rattle.wire.specs.Waiting.{Shows, Spends, waiting}
 use Rattle.wire.specs.declared.feed.Step.{Step}
 use Rattle.wire.proofs.WaitingFronts.{of_whole, of_end, awaits_head, text_alone, text_copied, opened, barred, next_too_long, next_truncated, breaks_early}
 use Rattle.wire.specs.declared.feed.Opening.{Opening}
@@ -52,6 +52,7 @@ returns-in-Ok g c =
       room = c.take.ensures.room ∙ c.read_head.ensures.room;
       count = c.in-Ok-Head.ensures.count;
       free = λ h. (c.take.ensures.most ∙ (c.in-Ok-Head.ensures.free h).0, tt);
+      spends = (subst (λ (o : Option ℕ). Spends c.args.backlog.now.most o (g.R.Read.remaining c.args.reader.now.inner) (g.R.Read.remaining c.read_head.new.reader.inner)) (sym c.take.ensures.most) c.in-Ok-Head.ensures.spends.0, tt);
     }
 
 pub returns-in-Err-read_announcement : goal.returns-in-Err-read_announcement
@@ -70,6 +71,7 @@ returns-in-Err-read_announcement g c =
       room = c.take.ensures.room ∙ c.read_head.ensures.room;
       count = c.in-Ok-Head.ensures.count;
       free = λ h. (c.take.ensures.most ∙ (c.in-Ok-Head.ensures.free h).0, tt);
+      spends = (subst (λ (o : Option ℕ). Spends c.args.backlog.now.most o (g.R.Read.remaining c.args.reader.now.inner) (g.R.Read.remaining c.read_head.new.reader.inner)) (sym c.take.ensures.most) c.in-Ok-Head.ensures.spends.0, tt);
     }
 
 pub returns-in-Ok-Refused : goal.returns-in-Ok-Refused
@@ -82,6 +84,7 @@ returns-in-Ok-Refused g c =
       room = c.read_head.ensures.room;
       count = c.in-Ok-Refused.ensures.count;
       free = λ h. ((c.in-Ok-Refused.ensures.free h).0, tt);
+      spends = (c.in-Ok-Refused.ensures.spends.0, tt);
     }
 
 pub returns-in-Ok-End : goal.returns-in-Ok-End
@@ -93,6 +96,7 @@ returns-in-Ok-End g c =
       room = c.read_head.ensures.room;
       count = c.in-Ok-End.ensures.count;
       free = λ h. ((c.in-Ok-End.ensures.free h).0, tt);
+      spends = (c.in-Ok-End.ensures.spends.0, tt);
     }
 
 pub returns-in-Ok-Truncated : goal.returns-in-Ok-Truncated
@@ -104,6 +108,7 @@ returns-in-Ok-Truncated g c =
       room = c.read_head.ensures.room;
       count = c.in-Ok-Truncated.ensures.count;
       free = λ h. ((c.in-Ok-Truncated.ensures.free h).0, tt);
+      spends = (c.in-Ok-Truncated.ensures.spends.0, tt);
     }
 
 pub returns-in-Err : goal.returns-in-Err
@@ -114,6 +119,7 @@ returns-in-Err g c =
       room = c.read_head.ensures.room;
       count = counts_same (Step ℕ) (Step Opening) c.in-Err.fault _ _ c.in-Err.ensures.count;
       free = λ h. c.in-Err.ensures.free h;
+      spends = c.in-Err.ensures.spends;
     }
 
 pub shared_ref_as_front-read_announcement : goal.shared_ref_as_front-read_announcement

@@ -7,7 +7,8 @@ use Rattle.wire.specs.declared.feed.Step.{Step}
 use Rattle.wire.specs.declared.feed.Step.TheVariants as step
 use Rattle.wire.specs.declared.joining.Came.{Came}
 use Rattle.wire.proofs.Beginnings.{found_by, parts_by, counts_by, counts_failed}
-use Rattle.wire.proofs.BrokenOff.{broken_by}
+use Rattle.wire.proofs.BrokenOff.{awaited_by, broken_by}
+use Rattle.wire.proofs.Spending.{waits_none}
 use Rattle.wire.proofs.joining.read_opening.Goals as goal
 
 pub returns-in-Ok-Head-clause-same : goal.returns-in-Ok-Head-clause-same
@@ -97,3 +98,25 @@ returns-in-Err-clause-fault g c =
 
 pub returns-in-Err-clause-count : goal.returns-in-Err-clause-count
 returns-in-Err-clause-count g c = counts_failed (Step Opening) Came _ _ _ _ c.in-Err.is c.next.ensures.count
+
+pub returns-in-Err-clause-waits : goal.returns-in-Err-clause-waits
+returns-in-Err-clause-waits g c put_off =
+    let remaining = g.R.Read.remaining in
+    let old = c.args.feed.now in
+    let new = c.next.new.self in
+    awaited_by old.place new.place c.in-Err.fault (left remaining old) (remaining new.reader.now.inner) (waiting new.backlog) c.next.result c.in-Err.is put_off c.requires c.next.ensures.step
+
+pub returns-in-Err-clause-spends : goal.returns-in-Err-clause-spends
+returns-in-Err-clause-spends g c = (c.next.ensures.spends.0, waits_none c.next.new.self.backlog.most c.next.result c.in-Err.fault c.in-Err.is c.next.ensures.spends.1)
+
+pub returns-in-Ok-Head-clause-spends : goal.returns-in-Ok-Head-clause-spends
+returns-in-Ok-Head-clause-spends g c = (c.next.ensures.spends.0, tt)
+
+pub returns-in-Ok-Refused-clause-spends : goal.returns-in-Ok-Refused-clause-spends
+returns-in-Ok-Refused-clause-spends g c = (c.next.ensures.spends.0, tt)
+
+pub returns-in-Ok-End-clause-spends : goal.returns-in-Ok-End-clause-spends
+returns-in-Ok-End-clause-spends g c = (c.next.ensures.spends.0, tt)
+
+pub returns-in-Ok-Truncated-clause-spends : goal.returns-in-Ok-Truncated-clause-spends
+returns-in-Ok-Truncated-clause-spends g c = (c.next.ensures.spends.0, tt)

@@ -8,6 +8,7 @@ use Rattle.wire.specs.declared.joining.Ending.{Ending}
 use Rattle.wire.specs.declared.joining.Ending.TheVariants.{Whole, Lacking}
 use Rattle.wire.proofs.Beginnings.{counts_failed}
 use Rattle.wire.proofs.Skips.{broke_off, lacks, skipped_none, skips_on, takes_given, counts_none}
+use Rattle.wire.proofs.Spending.{spent_none, spent_on, waits_none}
 use Rattle.wire.proofs.joining.skip_body.Goals as goal
 
 pub pieces-preserved : goal.pieces-preserved
@@ -21,6 +22,7 @@ pieces-preserved g c =
       same = h.0 ∙ c.pieces.invariant.same;
       count = counts_none c.piece.result _ old.reader.now.faults new.reader.now.faults is h.2 ∙ c.pieces.invariant.count;
       free = λ free. (h.4 (c.pieces.invariant.free free)).0;
+      spent = spent_on g.R.Read.remaining c.args.feed.now old new c.pieces.invariant.spent h.5.0;
     }
 
 pub returns-in-Ok-Refused-clause-lacking : goal.returns-in-Ok-Refused-clause-lacking
@@ -68,7 +70,7 @@ pub returns-in-Ok-Refused-clause-count : goal.returns-in-Ok-Refused-clause-count
 returns-in-Ok-Refused-clause-count g c = counts_none c.piece.result _ c.pieces.feed.reader.now.faults _ c.in-Ok-Refused.is c.piece.follows.holds-at-none.2 ∙ c.pieces.invariant.count
 
 pub pieces-init : goal.pieces-init
-pieces-init g c = record { skipped = skipped_none g.R.Read.remaining c.args.size c.args.feed.now c.requires; same = refl; count = refl; free = λ free. free }
+pieces-init g c = record { skipped = skipped_none g.R.Read.remaining c.args.size c.args.feed.now c.requires; same = refl; count = refl; free = λ free. free; spent = spent_none g.R.Read.remaining c.args.feed.now }
 
 pub returns-in-Ok-Done-clause-whole : goal.returns-in-Ok-Done-clause-whole
 returns-in-Ok-Done-clause-whole g c = λ _.
@@ -88,3 +90,15 @@ pub returns-in-Err-clause-fault : goal.returns-in-Err-clause-fault
 returns-in-Err-clause-fault g c =
     let h = c.piece.follows.holds-at-none in
     broke_off g.R.Read.remaining c.args.size c.args.feed.now c.pieces.feed c.piece.follows.lender-at-none c.piece.result c.in-Err.fault c.pieces.invariant.skipped c.in-Err.is h.1 h.3
+
+pub returns-in-Ok-Done-clause-spends : goal.returns-in-Ok-Done-clause-spends
+returns-in-Ok-Done-clause-spends g c = (spent_on g.R.Read.remaining c.args.feed.now c.pieces.feed c.piece.follows.lender-at-none c.pieces.invariant.spent c.piece.follows.holds-at-none.5.0, tt)
+
+pub returns-in-Ok-Refused-clause-spends : goal.returns-in-Ok-Refused-clause-spends
+returns-in-Ok-Refused-clause-spends g c = (spent_on g.R.Read.remaining c.args.feed.now c.pieces.feed c.piece.follows.lender-at-none c.pieces.invariant.spent c.piece.follows.holds-at-none.5.0, tt)
+
+pub returns-in-Err-clause-spends : goal.returns-in-Err-clause-spends
+returns-in-Err-clause-spends g c =
+    let h = c.piece.follows.holds-at-none in
+    let new = c.piece.follows.lender-at-none in
+    (spent_on g.R.Read.remaining c.args.feed.now c.pieces.feed new c.pieces.invariant.spent h.5.0, waits_none new.backlog.most c.piece.result c.in-Err.fault c.in-Err.is h.5.1)

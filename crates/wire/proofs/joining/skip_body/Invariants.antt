@@ -1,6 +1,6 @@
 use Rattle.std.proofs.Common.{◌≡◌}
 use Rattle.wire.specs.Waiting.{IsFree}
-use Rattle.wire.proofs.Skipping.{HasSkipped, to_come}
+use Rattle.wire.proofs.Skipping.{HasSkipped, HasSpent, to_come}
 use Rattle.wire.proofs.joining.skip_body.Given as goal
 
 abbrev pub invariant-pieces : goal.invariant-pieces
@@ -9,6 +9,7 @@ invariant-pieces g l = record {
   same : l.feed.reader.ghost_name ≡ l.fn.feed.reader.ghost_name;
   count : l.feed.reader.now.faults ≡ l.fn.feed.reader.now.faults;
   free : IsFree l.fn.feed.backlog → IsFree l.feed.backlog;
+  spent : HasSpent g.R.Read.remaining l.fn.feed l.feed;
 }
 
 abbrev pub decreases-pieces : goal.decreases-pieces

@@ -10,10 +10,11 @@ use Rattle.std.proofs.lemmas.Grind.{common_steps}
 use Rattle.wire.specs.Waiting.{waiting}
 use Rattle.wire.proofs.Heads.{no_end_in_nothing}
 use Rattle.wire.proofs.Backlogs.{still_none, in_window, still_searched, kept_grown, kept_failed}
+use Rattle.wire.proofs.Spending.{spends_on, spends_same}
 use Rattle.wire.proofs.backlog.Backlog.read_head.Goals as goal
 
 pub reads-init : goal.reads-init
-reads-init g c = record { kept = Keeps-refl _; count = refl; room = c.requires; small = lit≤ tt; none = no_end_in_nothing; free = λ h. h }
+reads-init g c = record { kept = Keeps-refl _; count = refl; room = c.requires; small = lit≤ tt; none = no_end_in_nothing; free = λ h. h; spends = spends_same c.args.self.now.most (g.R.Read.remaining c.args.reader.now.inner) }
 
 pub head_end_behind-requires : goal.head_end_behind-requires
 head_end_behind-requires g c = in_window c.window.result.now (waiting c.reads.self) c.reads.searched c.window.ensures c.reads.invariant.small c.reads.invariant.none
@@ -37,6 +38,7 @@ reads-preserved g c =
       none = subst (λ (n : ℕ). HasNoHeadEnd (take n (waiting c.read_more.new.self))) (sym searched)
           (still_searched c.window.result.now old _ bytes c.window.ensures short more c.in_default.ensures.none);
       free = λ h. (c.in-Ok-true.ensures.free (c.reads.invariant.free h)).0;
+      spends = spends_on c.args.self.now.most c.reads.self.most c.read_more.new.self.most (remaining c.args.reader.now.inner) here there c.reads.invariant.spends c.in-Ok-true.ensures.spends.0;
     }
 
 pub returns-in-Some : goal.returns-in-Some
@@ -46,6 +48,7 @@ returns-in-Some g c = record {
   fault = tt;
   count = c.reads.invariant.count;
   free = λ h. (c.reads.invariant.free h, tt);
+  spends = (c.reads.invariant.spends, tt);
   room = c.reads.invariant.room;
 }
 
@@ -56,6 +59,7 @@ returns-then-searched-ge-MOST_HEAD g c = record {
   fault = tt;
   count = c.reads.invariant.count;
   free = λ h. (c.reads.invariant.free h, tt);
+  spends = (c.reads.invariant.spends, tt);
   room = c.reads.invariant.room;
 }
 
@@ -75,6 +79,7 @@ returns-then-searched-eq0 g c =
       fault = tt;
       count = c.in-Ok-false.ensures.count ∙ c.reads.invariant.count;
       free = λ h. ((c.in-Ok-false.ensures.free (c.reads.invariant.free h)).0, tt);
+      spends = (spends_on c.args.self.now.most c.reads.self.most c.read_more.new.self.most (remaining c.args.reader.now.inner) here there c.reads.invariant.spends c.in-Ok-false.ensures.spends.0, tt);
       room = c.read_more.ensures.room ∙ c.reads.invariant.room;
     }
 
@@ -96,6 +101,7 @@ returns-else-searched-eq0 g c =
       fault = tt;
       count = c.in-Ok-false.ensures.count ∙ c.reads.invariant.count;
       free = λ h. ((c.in-Ok-false.ensures.free (c.reads.invariant.free h)).0, tt);
+      spends = (spends_on c.args.self.now.most c.reads.self.most c.read_more.new.self.most (remaining c.args.reader.now.inner) here there c.reads.invariant.spends c.in-Ok-false.ensures.spends.0, tt);
       room = c.read_more.ensures.room ∙ c.reads.invariant.room;
     }
 
@@ -114,6 +120,7 @@ returns-in-Err g c =
       fault = is_read;
       count = counts_same Bool (Step ℕ) c.in-Err.fault _ _ (subst (λ (n : ℕ). CountsReads {T = Bool} (Err c.in-Err.fault) n c.read_more.new.reader.faults) c.reads.invariant.count c.in-Err.ensures.count);
       free = λ h. c.in-Err.ensures.free (c.reads.invariant.free h);
+      spends = (spends_on c.args.self.now.most c.reads.self.most c.read_more.new.self.most (remaining c.args.reader.now.inner) here there c.reads.invariant.spends c.in-Err.ensures.spends.0, c.in-Err.ensures.spends.1);
       room = c.read_more.ensures.room ∙ c.reads.invariant.room;
     }
 

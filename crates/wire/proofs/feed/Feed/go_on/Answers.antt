@@ -7,12 +7,13 @@ use Rattle.wire.specs.Waiting.{taken, waiting}
 use Rattle.wire.proofs.PiecesGiven.{at_least_none, none_open, complete, lacking, bytes_given, failed}
 use Rattle.wire.proofs.Faults.{counts_same}
 use Rattle.wire.proofs.Given.{none_noted, one_more}
+use Rattle.wire.proofs.Spending.{spends_same}
 use Rattle.wire.proofs.feed.Feed.go_on.Goals as goal
 
 pub returns-in_default : goal.returns-in_default
 returns-in_default g c =
     let old = c.args.self.now in
-    record { same = refl; piece = none_open old.place (waiting old.backlog) (g.R.Read.remaining old.reader.now.inner) c.in_default.not-Body; size = at_least_none _; count = refl; given = none_noted c.new-self.result c.new-self.ensures; free = λ h. (h, tt) }
+    record { same = refl; piece = none_open old.place (waiting old.backlog) (g.R.Read.remaining old.reader.now.inner) c.in_default.not-Body; size = at_least_none _; count = refl; given = none_noted c.new-self.result c.new-self.ensures; free = λ h. (h, tt); spends = (spends_same old.backlog.most (g.R.Read.remaining old.reader.now.inner), tt) }
 
 pub returns-then-to_come-eq0 : goal.returns-then-to_come-eq0
 returns-then-to_come-eq0 g c =
@@ -24,6 +25,7 @@ returns-then-to_come-eq0 g c =
       count = refl;
       given = none_noted c.new-self-then-to_come-eq0.result c.new-self-then-to_come-eq0.ensures;
       free = λ h. (h, tt);
+      spends = (spends_same old.backlog.most (g.R.Read.remaining old.reader.now.inner), tt);
     }
 
 pub returns-in-Ok-eq0 : goal.returns-in-Ok-eq0
@@ -41,6 +43,7 @@ returns-in-Ok-eq0 g c =
       count = cut.count;
       given = refl;
       free = λ h. ((cut.free h).0, tt);
+      spends = (cut.spends.0, tt);
     }
 
 pub returns-in-Ok : goal.returns-in-Ok
@@ -58,6 +61,7 @@ returns-in-Ok g c =
       count = cut.count;
       given = one_more old.given c.and-self.result new c.in-Ok.size c.and-self.ensures;
       free = λ h. ((cut.free h).0, tt);
+      spends = (cut.spends.0, tt);
     }
 
 pub returns-in-Err : goal.returns-in-Err
@@ -75,4 +79,5 @@ returns-in-Err g c =
       count = counts_same ℕ (Piece ℕ) c.in-Err.fault _ _ c.in-Err.ensures.count;
       given = refl;
       free = λ h. c.in-Err.ensures.free h;
+      spends = c.in-Err.ensures.spends;
     }
