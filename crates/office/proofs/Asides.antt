@@ -1,5 +1,5 @@
 -- Feeds that are resumed for a turn, and set aside after it.
-use Rattle.std.proofs.Common.{◌≡◌, ◌∙◌, ℕ, List, [], Option, None, Some, refl, sym, ap, subst, take}
+use Rattle.std.proofs.Common.{◌≡◌, ◌∙◌, ◌++◌, ℕ, List, [], Option, None, Some, refl, sym, ap, subst, take}
 use Rattle.std.specs.Prelude.{◌≤◌, IsSomeAnd}
 use Rattle.std.specs.Io.KnownBytes.{Keeps, prepend_known}
 use Rattle.std.specs.Option.{ForSome}
@@ -7,8 +7,10 @@ use Rattle.std.proofs.KnownBytes.{Keeps-refl, prepend_known-nil}
 use Rattle.sigtext.specs.Limits.{most_head}
 use Rattle.boxes.specs.State.{State}
 use Rattle.boxes.specs.declared.keep.Keeper.{Ghosts}
-use Rattle.wire.specs.Feeds.{ahead_of, given_before, given_of, left, place_of, reader_of, resumed_at, stood_at, waits_in, whole_left}
-use Rattle.wire.specs.Seats.{left_behind}
+use Rattle.wire.specs.Feeding.{Awaits}
+use Rattle.wire.specs.Feeds.{TakesAllIn, ahead_of, given_before, given_of, left, place_of, reader_of, resumed_at, stood_at, waits_in, whole_left}
+use Rattle.wire.specs.Seats.{came_behind, left_behind}
+use Rattle.wire.specs.Waiting.{TakesAll}
 use Rattle.wire.specs.Underways.{IsBegun, IsUnderway, head_of}
 use Rattle.wire.specs.declared.counted.Counted.{Counted}
 use Rattle.wire.specs.declared.feed.Feed.{Feed}
@@ -22,12 +24,13 @@ use Rattle.wire.proofs.Ties.{none_is, some_is}
 use Rattle.office.specs.Connections.{MayGiveUp}
 use Rattle.office.specs.Premise.{HoldsUnless}
 use Rattle.office.specs.Resuming.{GoesOnFrom}
-use Rattle.office.specs.Stepping.{GoesOn, Steps, TellsStep, WaitsBehind}
+use Rattle.office.specs.Stepping.{AwaitsMore, GoesOn, Steps, TellsStep, WaitsBehind}
 use Rattle.office.specs.Turning.{MayEndGivingUp, StandsAside, TellsAside, TurnsTo, turn_of}
 use Rattle.office.specs.declared.connections.resuming.Resumed.TheVariants as resumed
 use Rattle.office.specs.declared.connections.stepping.Begun.{Begun}
 use Rattle.office.specs.declared.connections.stepping.Stepped.TheVariants as stepped
 use Rattle.office.specs.declared.connections.turning.Aside.{Aside}
+use Rattle.office.specs.declared.connections.turning.Turn.TheVariants as turn
 
 -- nothing was given of an open body
 pub behind_none : (standing : Standing) (reader : Option (List ℕ)) → given_before standing ≡ [] → left_behind None standing reader ≡ prepend_known (ahead_of standing) reader
@@ -127,20 +130,47 @@ pub holds_done : {K : Type 0} (k : Ghosts K) (old new : K) (e : Option SessionEn
 holds_done k old new None holds = holds
 holds_done k old new (Some e) holds = holds
 
+-- it did not only read on
+pub done_not_waits : (e : Option SessionEnd) → turn_of e ≡ turn.ReadOn → ⊥
+done_not_waits None is = absurd cc
+done_not_waits (Some e) is = absurd cc
+
 -- ---- a step that waits
 
+-- more bytes of the message are needed, whose head is this
+pub awaits_aside : {R : Type 0} (feed : Feed R) (standing : Standing) (head : List ℕ) → given_of feed ≡ given_before standing → waits_in feed ≡ ahead_of standing → AwaitsMore head feed
+    → ∥ Awaits (head ++ (given_before standing ++ ahead_of standing)) ∥₁
+awaits_aside feed standing head given ahead more =
+    subst (λ (l : List ℕ). ∥ Awaits (head ++ (l ++ ahead_of standing)) ∥₁) given
+    (subst (λ (l : List ℕ). ∥ Awaits (head ++ (given_of feed ++ l)) ∥₁) ahead more)
+
+-- it has taken all the bytes that it may read
+pub all_aside : {R : Type 0} (remaining : R → Option (List ℕ)) (first last : Feed R) (most : Option ℕ) (old new : Counted R) → first.backlog.most ≡ most → reader_of first ≡ old → reader_of last ≡ new
+    → TakesAllIn remaining first last → TakesAll most (remaining old.inner) (remaining new.inner)
+all_aside {R = R} remaining first last most old new is before after all =
+    subst (λ (r : Counted R). TakesAll most (remaining old.inner) (remaining r.inner)) after
+    (subst (λ (r : Counted R). TakesAll most (remaining r.inner) (remaining (reader_of last).inner)) before
+    (subst (λ (o : Option ℕ). TakesAll o (remaining (reader_of first).inner) (remaining (reader_of last).inner)) is all))
+
 -- between two messages
-pub stands_none : {R : Type 0} (feed : Feed R) (standing : Standing) (underway : Option Underway) → underway ≡ None → stood_at standing ≡ place_of feed → given_of feed ≡ given_before standing
-    → (place_of feed ≡ place.Between) × (given_of feed ≡ []) → (underway ≡ None → (stood_at standing ≡ place.Between) × (given_before standing ≡ [])) × ForSome underway (λ u. IsUnderway u standing)
-stands_none feed standing underway none here given goes = (λ _. (here ∙ goes.0, sym given ∙ goes.1), λ u is. absurd (none_is u (sym none ∙ is)))
+pub stands_none : {R : Type 0} (feed : Feed R) (standing : Standing) (underway : Option Underway) → underway ≡ None → stood_at standing ≡ place_of feed → given_of feed ≡ given_before standing → waits_in feed ≡ ahead_of standing
+    → (place_of feed ≡ place.Between) × (given_of feed ≡ []) × AwaitsMore [] feed
+    → (underway ≡ None → (stood_at standing ≡ place.Between) × (given_before standing ≡ [])) × ForSome underway (λ u. IsUnderway u standing) × ∥ Awaits (came_behind underway standing) ∥₁
+stands_none feed standing underway none here given ahead goes = (
+  λ _. (here ∙ goes.0, sym given ∙ goes.1),
+  λ u is. absurd (none_is u (sym none ∙ is)),
+  subst (λ (o : Option Underway). ∥ Awaits (came_behind o standing) ∥₁) (sym none) (awaits_aside feed standing [] given ahead goes.2),
+)
 
 -- within a body
-pub stands_begun : (standing : Standing) (u : Underway) → IsUnderway u standing → (Some u ≡ None → (stood_at standing ≡ place.Between) × (given_before standing ≡ [])) × ForSome (Some u) (λ v. IsUnderway v standing)
-stands_begun standing u begun = (λ none. absurd (none_is u (sym none)), λ v at. subst (λ (w : Underway). IsUnderway w standing) (some_is u v at) begun)
+pub stands_begun : (standing : Standing) (u : Underway) → IsUnderway u standing → ∥ Awaits (came_behind (Some u) standing) ∥₁
+    → (Some u ≡ None → (stood_at standing ≡ place.Between) × (given_before standing ≡ [])) × ForSome (Some u) (λ v. IsUnderway v standing) × ∥ Awaits (came_behind (Some u) standing) ∥₁
+stands_begun standing u begun more = (λ none. absurd (none_is u (sym none)), λ v at. subst (λ (w : Underway). IsUnderway w standing) (some_is u v at) begun, more)
 
-pub none_there : {R : Type 0} (feed : Feed R) (block : List ℕ) (o : Option Begun) → o ≡ None → WaitsBehind feed block (stepped.Waits o) → (place_of feed ≡ place.Between) × (given_of feed ≡ [])
+pub none_there : {R : Type 0} (feed : Feed R) (block : List ℕ) (o : Option Begun) → o ≡ None → WaitsBehind feed block (stepped.Waits o)
+    → (place_of feed ≡ place.Between) × (given_of feed ≡ []) × AwaitsMore [] feed
 none_there feed block o is waits = subst (λ (x : Option Begun). WaitsBehind feed block (stepped.Waits x)) is waits
 
 pub begun_there : {R : Type 0} (feed : Feed R) (block : List ℕ) (o : Option Begun) (b : Begun) → o ≡ Some b → WaitsBehind feed block (stepped.Waits o)
-    → (b.len ≤ most_head) × IsBegun (take b.len block) b.size b.kept (place_of feed) (given_of feed)
+    → (b.len ≤ most_head) × IsBegun (take b.len block) b.size b.kept (place_of feed) (given_of feed) × AwaitsMore (take b.len block) feed
 begun_there feed block o b is waits = subst (λ (x : Option Begun). WaitsBehind feed block (stepped.Waits x)) is waits

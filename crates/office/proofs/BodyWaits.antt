@@ -5,7 +5,7 @@ use Rattle.std.specs.Option.{ForSome}
 use Rattle.std.specs.Io.KnownBytes.{Keeps, prepend_known}
 use Rattle.std.proofs.KnownBytes.{Keeps-trans, prepend_known-nil}
 use Rattle.std.proofs.Math.Logic.{∥∥₁_map}
-use Rattle.std.proofs.lemmas.List.{length-replicate, take_all}
+use Rattle.std.proofs.lemmas.List.{append-nil, length-replicate, take_all}
 use Rattle.httparse.proofs.GrammarLemmas.{request_unique}
 use Rattle.httparse.specs.Grammar.{RequestHead}
 use Rattle.sigtext.specs.Bytes.{AreBytes}
@@ -15,22 +15,23 @@ use Rattle.sigv4.specs.Hashers.{ShaHolds}
 use Rattle.sigv4.specs.declared.hash.Sha.{Sha}
 use Rattle.boxes.specs.State.{State}
 use Rattle.boxes.specs.declared.keep.Keeper.{Ghosts}
-use Rattle.wire.specs.Feeding.{Opens}
-use Rattle.wire.specs.Feeds.{given_of, left, place_of, whole_left}
+use Rattle.wire.specs.Feeding.{Awaits, AwaitsHead, a_head, Opens}
+use Rattle.wire.specs.Feeds.{given_of, left, place_of, waits_in, whole_left}
 use Rattle.wire.specs.Framing.{IsFront, request_of}
-use Rattle.wire.specs.Underways.{IsBegun, IsKept}
+use Rattle.wire.specs.Underways.{IsBegun, IsKept, IsWholeHead}
 use Rattle.wire.specs.Whole.{IsOpening, StandsIn, WaitsWithin}
 use Rattle.wire.specs.declared.counted.Counted.{Counted}
 use Rattle.wire.specs.declared.feed.Feed.{Feed}
 use Rattle.wire.specs.declared.feed.Place.TheVariants as place
 use Rattle.wire.specs.declared.underway.Kept.{Kept}
 use Rattle.wire.proofs.Backlogs.{prepend-kept}
+use Rattle.wire.proofs.BrokenOff.{awaits_body}
 use Rattle.office.specs.Foreseeing.{IsUpload}
 use Rattle.office.specs.Receiving.{HoldsPart}
 use Rattle.office.specs.Crashes.{never_changed}
 use Rattle.office.specs.Frames.{Quiet}
 use Rattle.office.specs.Premise.{WasKept}
-use Rattle.office.specs.Stepping.{IsExpected, StandsBy}
+use Rattle.office.specs.Stepping.{AwaitsMore, IsExpected, StandsBy}
 use Rattle.office.specs.declared.connections.receiving.Received.TheVariants as received
 use Rattle.office.specs.declared.requests.foreseeing.Prospect.{Prospect}
 use Rattle.office.proofs.BodySteps.{upload_readable}
@@ -119,6 +120,27 @@ module _ {R K : Type 0} (remaining : R → Option (List ℕ)) (k : Ghosts K) (si
       let body = replicate size 0 in
       begun_from remaining k size old new foreseen x.opening.opens
       (upload_readable s x.opening.opens.head x.has_length body [] foreseen (x.foresees body (length-replicate size 0)))
+
+-- ---- what came is no whole message
+
+-- no head has come whole
+pub awaits_a_head : {R : Type 0} (feed : Feed R) → given_of feed ≡ [] → AwaitsHead (waits_in feed) → AwaitsMore [] feed
+awaits_a_head feed none head = ∣ a_head (subst AwaitsHead (sym (ap (λ (given : List ℕ). given ++ waits_in feed) none)) head) ∣₁
+
+module _ {R : Type 0} (remaining : R → Option (List ℕ)) (size : ℕ) (old new : Feed R) (text : List ℕ) where
+  -- the body that the head announces has not come whole
+  awaits_a_body : (has_length : Bool) → Opens text has_length size → WaitsWithin remaining size old new → Awaits (text ++ (given_of new ++ waits_in new))
+  awaits_a_body has_length o w =
+      let given = given_of new in
+      let all : given ≡ given ++ waits_in new = sym (append-nil given) ∙ ap (λ (waits : List ℕ). given ++ waits) (sym w.none) in
+      subst (λ (came : List ℕ). Awaits (text ++ came)) all (awaits_body text given has_length size o w.few)
+
+  pub awaits_more : (has_length : Bool) → Opens text has_length size → WaitsWithin remaining size old new → AwaitsMore text new
+  awaits_more has_length o w = ∣ awaits_a_body has_length o w ∣₁
+
+  -- the same for a head that is whole
+  pub still_awaits : IsWholeHead text size → WaitsWithin remaining size old new → AwaitsMore text new
+  still_awaits whole w = ∥∥₁_map whole (λ (x : (has_length : Bool) × Opens text has_length size). awaits_a_body x.0 x.1 w)
 
 -- ---- small facts
 

@@ -9,7 +9,9 @@ use Rattle.wire.specs.Underways.{IsBegun}
 use Rattle.wire.specs.declared.counted.Counted.{Counted}
 use Rattle.wire.specs.declared.feed.Feed.{Feed}
 use Rattle.wire.specs.declared.feed.Place.{Place}
-use Rattle.office.specs.Stepping.{HasHeadOf, MayHaveGivenUp, ReadsOn, StandsBy, StepsTo, WaitsBehind}
+use Rattle.wire.proofs.Skipping.{HasSpent}
+use Rattle.wire.proofs.Spending.{spent_then}
+use Rattle.office.specs.Stepping.{AwaitsMore, HasHeadOf, MayHaveGivenUp, ReadsOn, StandsBy, StepsTo, TakesAllFirst, WaitsBehind}
 use Rattle.office.specs.declared.connections.stepping.Begun.{Begun}
 use Rattle.office.specs.declared.connections.stepping.Stepped.{Stepped}
 use Rattle.office.specs.declared.connections.stepping.Stepped.TheVariants as stepped
@@ -32,9 +34,9 @@ read_in remaining known feed head block len (Some b) at all long (short, is, kep
 pub waits_in_block : {R : Type 0} (feed : Feed R) (head block : List ℕ) (len : ℕ) (result : Stepped) → take len block ≡ head → take len head ≡ head → HasHeadOf len result → WaitsBehind feed head result → WaitsBehind feed block result
 waits_in_block feed head block len (stepped.Done e) at all long w = w
 waits_in_block feed head block len (stepped.Waits None) at all long w = w
-waits_in_block feed head block len (stepped.Waits (Some b)) at all long (short, is) =
+waits_in_block feed head block len (stepped.Waits (Some b)) at all long (short, is, more) =
     let same : take b.len head ≡ take b.len block = ap (λ (n : ℕ). take n head) long ∙ all ∙ sym at ∙ ap (λ (n : ℕ). take n block) (sym long) in
-    (short, subst (λ (text : List ℕ). IsBegun text b.size b.kept (place_of feed) (given_of feed)) same is)
+    (short, subst (λ (text : List ℕ). IsBegun text b.size b.kept (place_of feed) (given_of feed)) same is, subst (λ (text : List ℕ). AwaitsMore text feed) same more)
 
 module _ {C K R W : Type 0} (gives : C → ℕ → C → Type 0) (p : Place) (known : Option (List ℕ)) (remaining : R → Option (List ℕ)) (feed : Feed R) (writer writer' : Counted W) (contents : W → Option (List ℕ)) (clock clock' : C) (k : Ghosts K) where
   pub steps_in : (keeper keeper' : K) (s : State) (head block : List ℕ) (len : ℕ) (result : Stepped) → take len block ≡ head → take len head ≡ head → HasHeadOf len result
@@ -58,3 +60,8 @@ copied_front text block behind is = ap (take (length text)) is ∙ take-append_s
 pub given_up_later : {K : Type 0} (k : Ghosts K) (a b c : K) (result : Stepped) → k.faults a ≤ k.faults b → MayHaveGivenUp k b c result → MayHaveGivenUp k a c result
 given_up_later k a b c (stepped.Done e) least may = some_may_later k a b c e least may
 given_up_later k a b c (stepped.Waits begun) least may = may
+
+-- a feed read some bytes, and then all others that it may read
+pub all_after : {R : Type 0} (remaining : R → Option (List ℕ)) (first here next : Feed R) (result : Stepped) → HasSpent remaining first here → TakesAllFirst remaining here next result → TakesAllFirst remaining first next result
+all_after remaining first here next (stepped.Done e) spent all = tt
+all_after remaining first here next (stepped.Waits begun) spent all = spent_then remaining first here next spent all

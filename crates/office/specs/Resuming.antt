@@ -7,7 +7,7 @@ use Rattle.sigtext.specs.declared.refusal.Refusal.TheVariants as rule
 use Rattle.sigtext.specs.Readable.{IsReadable}
 use Rattle.boxes.specs.State.{State}
 use Rattle.boxes.specs.declared.keep.Keeper.{Ghosts}
-use Rattle.wire.specs.Feeds.{given_of, left, place_of, reader_of, whole_left}
+use Rattle.wire.specs.Feeds.{TakesAllIn, given_of, left, place_of, reader_of, whole_left}
 use Rattle.wire.specs.Underways.{IsBegun, head_of}
 use Rattle.wire.specs.Waiting.{IsFree}
 use Rattle.wire.specs.declared.backlog.Backlog.{Backlog}
@@ -21,7 +21,7 @@ use Rattle.office.specs.Connections.{MayGiveUp}
 use Rattle.office.specs.Crashes.{AddsAsked, AddsStanding, IsAsked}
 use Rattle.office.specs.Handling.{Handles, end_of}
 use Rattle.office.specs.Premise.{HoldsUp, IsLeft}
-use Rattle.office.specs.Stepping.{IsClosed, StandsBy, Steps, TellsStep}
+use Rattle.office.specs.Stepping.{AwaitsMore, IsClosed, StandsBy, Steps, TellsStep}
 use Rattle.office.specs.declared.connections.handling.Handled.{Handled}
 use Rattle.office.specs.declared.connections.resuming.Resumed.{Resumed}
 use Rattle.office.specs.declared.connections.resuming.Resumed.TheVariants as resumed
@@ -65,12 +65,17 @@ abbrev pub MayHaveLeftOff : {K : Type 0} → Ghosts K → K → K → Resumed �
 MayHaveLeftOff k old new (resumed.Done e) = IsSomeAnd e (MayGiveUp k old new)
 MayHaveLeftOff k old new (resumed.Waits u) = ⊥
 
+-- a step that waits has taken all the bytes that it may read
+abbrev pub HasTakenAll : {R : Type 0} → (R → Option (List ℕ)) → Feed R → Feed R → Resumed → Type 0
+HasTakenAll remaining old new (resumed.Done e) = ⊤
+HasTakenAll remaining old new (resumed.Waits u) = TakesAllIn remaining old new
+
 -- where bytes may be read without end, it stays so, and a step is done
 abbrev pub NeverLeaves : Backlog → Backlog → Resumed → Type 0
 NeverLeaves old new (resumed.Done e) = IsFree old → IsFree new
 NeverLeaves old new (resumed.Waits u) = IsFree old → ⊥
 
--- a feed that waits stands within the body of the message that it went on with
+-- A feed that waits stands within the body of the message that it went on with. More bytes are needed.
 abbrev pub WaitsWith : {R : Type 0} → Feed R → Resumed → Type 0
 WaitsWith feed (resumed.Done e) = ⊤
-WaitsWith feed (resumed.Waits u) = IsBegun (head_of u) u.size u.kept (place_of feed) (given_of feed)
+WaitsWith feed (resumed.Waits u) = IsBegun (head_of u) u.size u.kept (place_of feed) (given_of feed) × AwaitsMore (head_of u) feed

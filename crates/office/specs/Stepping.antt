@@ -10,7 +10,8 @@ use Rattle.sigtext.specs.Request.{Request}
 use Rattle.boxes.specs.State.{State}
 use Rattle.boxes.specs.declared.keep.Keeper.{Ghosts}
 use Rattle.wire.specs.Framing.{Next, Message, request_of}
-use Rattle.wire.specs.Feeds.{given_of, left, place_of, reader_of, whole_left}
+use Rattle.wire.specs.Feeding.{Awaits}
+use Rattle.wire.specs.Feeds.{TakesAllIn, given_of, left, place_of, reader_of, waits_in, whole_left}
 use Rattle.wire.specs.Underways.{IsBegun}
 use Rattle.wire.specs.Waiting.{IsFree}
 use Rattle.wire.specs.Whole.{IsOpening}
@@ -115,13 +116,18 @@ ReadsOn remaining known feed block (Some b) =
     (b.len ≤ most_head) × IsBegun (take b.len block) b.size b.kept (place_of feed) (given_of feed)
     × Keeps known (prepend_known (take b.len block) (whole_left remaining feed))
 
+-- The bytes that came of a message are no whole message: this head, if it has begun, what was given of its body, and
+-- the bytes that wait.
+abbrev pub AwaitsMore : {R : Type 0} → List ℕ → Feed R → Type 0
+AwaitsMore head feed = ∥ Awaits (head ++ (given_of feed ++ waits_in feed)) ∥₁
+
 -- A feed that waits stands between two messages, or within the body of the one that has begun, whose head is at
--- the front of the block.
+-- the front of the block. More bytes are needed.
 abbrev pub WaitsBehind : {R : Type 0} → Feed R → List ℕ → Stepped → Type 0
 WaitsBehind feed block (stepped.Done e) = ⊤
-WaitsBehind feed block (stepped.Waits None) = (place_of feed ≡ place.Between) × (given_of feed ≡ [])
+WaitsBehind feed block (stepped.Waits None) = (place_of feed ≡ place.Between) × (given_of feed ≡ []) × AwaitsMore [] feed
 WaitsBehind feed block (stepped.Waits (Some b)) =
-    (b.len ≤ most_head) × IsBegun (take b.len block) b.size b.kept (place_of feed) (given_of feed)
+    (b.len ≤ most_head) × IsBegun (take b.len block) b.size b.kept (place_of feed) (given_of feed) × AwaitsMore (take b.len block) feed
 
 -- A step is done, or it waits. block: what is at the front of the block if it waits.
 abbrev pub StepsTo : {C K R W : Type 0} → (C → ℕ → C → Type 0) → Place → Option (List ℕ) → (R → Option (List ℕ)) → Feed R → Counted W → Counted W → (W → Option (List ℕ))
@@ -145,6 +151,11 @@ TellsStepped (stepped.Waits begun) reader reader' writer writer' = TellsStep Non
 abbrev pub MayHaveGivenUp : {K : Type 0} → Ghosts K → K → K → Stepped → Type 0
 MayHaveGivenUp k old new (stepped.Done e) = IsSomeAnd e (MayGiveUp k old new)
 MayHaveGivenUp k old new (stepped.Waits begun) = ⊥
+
+-- a step that waits has taken all the bytes that it may read
+abbrev pub TakesAllFirst : {R : Type 0} → (R → Option (List ℕ)) → Feed R → Feed R → Stepped → Type 0
+TakesAllFirst remaining old new (stepped.Done e) = ⊤
+TakesAllFirst remaining old new (stepped.Waits begun) = TakesAllIn remaining old new
 
 -- where bytes may be read without end, it stays so, and a step is done
 abbrev pub NeverStandsBy : Backlog → Backlog → Stepped → Type 0

@@ -4,8 +4,9 @@ use Rattle.std.specs.Option.{ForSome}
 use Rattle.std.specs.Io.KnownBytes.{Keeps}
 use Rattle.boxes.specs.State.{State}
 use Rattle.boxes.specs.declared.keep.Keeper.{Ghosts}
+use Rattle.wire.specs.Feeding.{Awaits}
 use Rattle.wire.specs.Feeds.{given_before, stood_at}
-use Rattle.wire.specs.Seats.{left_behind}
+use Rattle.wire.specs.Seats.{came_behind, left_behind}
 use Rattle.wire.specs.Underways.{IsUnderway}
 use Rattle.wire.specs.declared.counted.Counted.{Counted}
 use Rattle.wire.specs.declared.feed.Place.TheVariants as place
@@ -28,12 +29,13 @@ end_in (turn.Ended e) = Some e
 end_in turn.ReadOn = None
 
 -- Where the feed stands after a turn: between two messages, or within the body of the one that is under way. It
--- does not matter once the connection has ended.
+-- does not matter once the connection has ended. If the turn only read on, more bytes of the message are needed.
 abbrev pub StandsAside : Turn → Aside → Type 0
 StandsAside turn.Answered aside = (aside.underway ≡ None) × (stood_at aside.standing ≡ place.Between) × (given_before aside.standing ≡ [])
 StandsAside (turn.Ended e) aside = aside.underway ≡ None
 StandsAside turn.ReadOn aside =
     (aside.underway ≡ None → (stood_at aside.standing ≡ place.Between) × (given_before aside.standing ≡ [])) × ForSome aside.underway (λ u. IsUnderway u aside.standing)
+    × ∥ Awaits (came_behind aside.underway aside.standing) ∥₁
 
 -- A message was answered or the connection ended, as by a step of a session. Or nothing was told or written, and
 -- no byte was lost.

@@ -1,6 +1,6 @@
 //! The body of a message. The body of an upload is staged in the keeper, any other is discarded.
-ghost use Rattle.std.specs.Prelude.{ℕ, List};
-ghost use Rattle.wire.specs.Feeds.{SameReader, reader_of};
+ghost use Rattle.std.specs.Prelude.{◌≡◌, ℕ, List};
+ghost use Rattle.wire.specs.Feeds.{SameReader, TakesAllIn, reader_of};
 ghost use Rattle.wire.specs.Whole.{StandsIn};
 ghost use Rattle.office.specs.Receiving.{CountsReceived, NeverWaits, Passes};
 
@@ -33,6 +33,7 @@ fn pass_over<R: Read>(feed: &mut Feed<'_, R>, size: usize) -> Received
     ensures passes { Passes R.remaining size feed.old feed.new result }
     ensures counted { CountsReceived result (reader_of feed.old).faults (reader_of feed.new).faults }
     ensures free { NeverWaits feed.old.backlog feed.new.backlog result }
+    ensures all { result ≡ Received.Waits → TakesAllIn R.remaining feed.old feed.new }
 {
     match skip_body(feed, size) {
         Ok(Ending::Whole) => Received::Whole([0; 32]),
@@ -49,7 +50,7 @@ impl<K: Keeper> Office<K> {
     ghost use Rattle.boxes.specs.Bound.{StaysBy};
     ghost use Rattle.sigtext.specs.Bytes.{AreBytes};
     ghost use Rattle.sigv4.specs.Hashers.{ShaHolds};
-    ghost use Rattle.wire.specs.Feeds.{SameReader, reader_of};
+    ghost use Rattle.wire.specs.Feeds.{SameReader, TakesAllIn, reader_of};
     ghost use Rattle.wire.specs.Whole.{StandsIn};
     ghost use Rattle.office.specs.Frames.{Quiet};
     ghost use Rattle.office.specs.Premise.{EndsUnstaged, IsFault, StaysUnstaged};
@@ -104,6 +105,7 @@ impl<K: Keeper> Office<K> {
         ensures quiet { Quiet K.Keeper self.old.keeper self.new.keeper
             (result ≡ Received.GaveUp) }
         ensures free { NeverWaits feed.old.backlog feed.new.backlog result }
+        ensures all { result ≡ Received.Waits → TakesAllIn R.remaining feed.old feed.new }
     {
         'pieces: loop {
             match feed.piece() {
@@ -143,6 +145,7 @@ impl<K: Keeper> Office<K> {
         ensures quiet { Quiet K.Keeper self.old.keeper self.new.keeper
             (result ≡ Received.GaveUp) }
         ensures free { NeverWaits feed.old.backlog feed.new.backlog result }
+        ensures all { result ≡ Received.Waits → TakesAllIn R.remaining feed.old feed.new }
     {
         if is_upload {
             self.stage_body(feed, size, sha)

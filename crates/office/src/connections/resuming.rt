@@ -84,7 +84,7 @@ impl<K: Keeper> Office<K> {
     ghost use Rattle.office.specs.Foreseeing.{AreStaged};
     ghost use Rattle.office.specs.Frames.{Quiet};
     ghost use Rattle.office.specs.Premise.{EndsUnstaged, HoldsUnless, StaysUnstaged, WasKept};
-    ghost use Rattle.office.specs.Resuming.{EndsWhole, GoesOnFrom, MayHaveLeftOff, NeverLeaves, ResumesTo, TellsResumed, TellsWhole, WaitsWith};
+    ghost use Rattle.office.specs.Resuming.{EndsWhole, GoesOnFrom, HasTakenAll, MayHaveLeftOff, NeverLeaves, ResumesTo, TellsResumed, TellsWhole, WaitsWith};
     ghost use Rattle.office.specs.Sessions.{HasBegunMessage};
     ghost use Rattle.office.specs.Stepping.{IsClosed};
 
@@ -211,6 +211,7 @@ impl<K: Keeper> Office<K> {
         ensures rest { HoldsUnless K.Keeper self.old.keeper self.new.keeper
             (MayHaveLeftOff K.Keeper self.old.keeper self.new.keeper result) }
         ensures free { NeverLeaves feed.old.backlog feed.new.backlog result }
+        ensures all { HasTakenAll R.remaining feed.old feed.new result }
     {
         let Underway {
             text,

@@ -83,7 +83,7 @@ impl<K: Keeper> Office<K> {
     ghost use Rattle.office.specs.Frames.{Quiet};
     ghost use Rattle.office.specs.Handling.{Handles, MayBeGivenUp};
     ghost use Rattle.office.specs.Premise.{EndsUnstaged, HoldsUnless, StaysUnstaged, WasKept};
-    ghost use Rattle.office.specs.Stepping.{GoesOn, HasHeadOf, IsExpected, LeavesOff, MayHaveGivenUp, NeverStandsBy, StepsTo, TellsStepped, WaitsBehind};
+    ghost use Rattle.office.specs.Stepping.{GoesOn, HasHeadOf, IsExpected, LeavesOff, MayHaveGivenUp, NeverStandsBy, StepsTo, TakesAllFirst, TellsStepped, WaitsBehind};
 
     // Handles a message whose body came: takes its moment and writes its answer.
     pub(crate) fn serve_message<W: Write, C: Clock>(
@@ -159,6 +159,7 @@ impl<K: Keeper> Office<K> {
         ensures rest { HoldsUnless K.Keeper self.old.keeper self.new.keeper
             (MayHaveGivenUp K.Keeper self.old.keeper self.new.keeper result) }
         ensures free { NeverStandsBy feed.old.backlog feed.new.backlog result }
+        ensures all { TakesAllFirst R.remaining feed.old feed.new result }
         ensures long { HasHeadOf len result }
         ensures stands { (head : List ℕ) (has_length : Bool) (o : Opens head has_length size)
             → (IsUpload foreseen.entry → IsReadable (request_of o.head has_length []))
@@ -231,6 +232,7 @@ impl<K: Keeper> Office<K> {
         ensures rest { HoldsUnless K.Keeper self.old.keeper self.new.keeper
             (MayHaveGivenUp K.Keeper self.old.keeper self.new.keeper result) }
         ensures free { NeverStandsBy feed.old.backlog feed.new.backlog result }
+        ensures all { TakesAllFirst R.remaining feed.old feed.new result }
         ensures stands { Opens opening.now.text.now opening.now.has_length opening.now.length
             → WaitsBehind feed.new block.new result }
     {
@@ -268,6 +270,7 @@ impl<K: Keeper> Office<K> {
         ensures rest { HoldsUnless K.Keeper self.old.keeper self.new.keeper
             (MayHaveGivenUp K.Keeper self.old.keeper self.new.keeper result) }
         ensures free { NeverStandsBy feed.old.backlog feed.new.backlog result }
+        ensures all { TakesAllFirst R.remaining feed.old feed.new result }
         ensures stands { WaitsBehind feed.new block.new result }
     {
         let mut text = [0; MOST_HEAD];

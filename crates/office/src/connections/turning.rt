@@ -48,9 +48,11 @@ impl<K: Keeper> Office<K> {
     ghost use Rattle.std.specs.Prelude.{◌≡◌, ◌≢◌, [], IsSomeAnd, None, Option, Some};
     ghost use Rattle.std.specs.Option.{ForSome};
     ghost use Rattle.boxes.specs.State.{State};
+    ghost use Rattle.wire.specs.Feeding.{Awaits};
     ghost use Rattle.wire.specs.Feeds.{given_before, stood_at};
-    ghost use Rattle.wire.specs.Seats.{left_behind};
+    ghost use Rattle.wire.specs.Seats.{came_of, left_behind};
     ghost use Rattle.wire.specs.Underways.{IsUnderway};
+    ghost use Rattle.wire.specs.Waiting.{TakesAll};
     ghost use Rattle.wire.specs.Whole.{MayBegin};
     ghost use Rattle.office.specs.Connections.{MayGiveUp};
     ghost use Rattle.office.specs.Premise.{HoldsUnless, IsLeft, StaysUnstaged, WasKept};
@@ -78,6 +80,8 @@ impl<K: Keeper> Office<K> {
         ensures rest { HoldsUnless K.Keeper self.old.keeper self.new.keeper
             (MayEndGivingUp K.Keeper self.old.keeper self.new.keeper result.turn) }
         ensures free { due.most ≡ None → result.turn ≢ Turn.ReadOn }
+        ensures all { result.turn ≡ Turn.ReadOn
+            → TakesAll due.most (R.remaining reader.old.inner) (R.remaining reader.new.inner) }
     {
         let Due {
             buffer,
@@ -144,6 +148,8 @@ impl<K: Keeper> Office<K> {
         ensures rest { HoldsUnless K.Keeper self.old.keeper self.new.keeper
             (MayEndGivingUp K.Keeper self.old.keeper self.new.keeper result.turn) }
         ensures free { due.most ≡ None → result.turn ≢ Turn.ReadOn }
+        ensures all { result.turn ≡ Turn.ReadOn
+            → TakesAll due.most (R.remaining reader.old.inner) (R.remaining reader.new.inner) }
     {
         let Due {
             buffer,
@@ -198,6 +204,8 @@ impl<K: Keeper> Office<K> {
         ensures rest { HoldsUnless K.Keeper self.old.keeper self.new.keeper
             (MayEndGivingUp K.Keeper self.old.keeper self.new.keeper result.turn) }
         ensures free { due.most ≡ None → result.turn ≢ Turn.ReadOn }
+        ensures all { result.turn ≡ Turn.ReadOn
+            → TakesAll due.most (R.remaining reader.old.inner) (R.remaining reader.new.inner) }
     {
         match underway {
             None => self.begin(standing, due, reader, writer, clock),
@@ -210,8 +218,8 @@ impl<K: Keeper> Office<K> {
     /// ended stays as it is; bytes that were read and not taken are discarded when it ends. The bytes read, the
     /// moment, the bytes written, the end and the state after are those of the next message of its session,
     /// whatever was done for other connections in between. A turn that only reads on tells no moment and writes
-    /// nothing; there is none if bytes may be read without end. The connection is given up only within a message
-    /// that has begun.
+    /// nothing. It has read all the bytes that it may, and those that came are no whole message, so there is none if
+    /// bytes may be read without end. The connection is given up only within a message that has begun.
     pub fn take_turn<R: Read, W: Write, C: Clock>(
         &mut self,
         seat: &mut Seat<R, W>,
@@ -227,6 +235,9 @@ impl<K: Keeper> Office<K> {
         ensures rest { HoldsUnless K.Keeper self.old.keeper self.new.keeper
             (IsSomeAnd seat.new.end (MayGiveUp K.Keeper self.old.keeper self.new.keeper)) }
         ensures free { due.most ≡ None → seat.new.waited ≡ seat.old.waited }
+        ensures all { (seat.new.waited ≢ seat.old.waited)
+            → TakesAll due.most (R.remaining seat.old.reader.inner) (R.remaining seat.new.reader.inner) }
+        ensures awaits { (seat.new.waited ≢ seat.old.waited) → ∥ Awaits (came_of seat.new) ∥₁ }
     {
         if seat.end().is_some() {
             return due.spare();

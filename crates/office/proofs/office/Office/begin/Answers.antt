@@ -8,7 +8,7 @@ use Rattle.wire.proofs.Begins.{resumed_between}
 use Rattle.wire.proofs.Ties.{none_is, some_is}
 use Rattle.office.specs.Stepping.{ReadsOn}
 use Rattle.office.specs.declared.connections.stepping.Begun.{Begun}
-use Rattle.office.proofs.Asides.{HasSame, begun_aside_as, begun_there, goes_none, holds_done, keeps_begun, keeps_none, none_aside, none_there, stands_done, stands_none, tells_by, tells_done, turn_done}
+use Rattle.office.proofs.Asides.{HasSame, all_aside, awaits_aside, begun_aside_as, begun_there, done_not_waits, goes_none, holds_done, keeps_begun, keeps_none, none_aside, none_there, stands_done, stands_none, tells_by, tells_done, turn_done}
 use Rattle.office.proofs.SeatTurns.{steps_by}
 use Rattle.office.proofs.office.Office.begin.Goals as goal
 
@@ -55,7 +55,7 @@ returns-in-Done-clause-rest g c = rw c.turn_of.ensures (holds_done g.K.Keeper _ 
 
 pub returns-in-Waits-None-clause-stands : goal.returns-in-Waits-None-clause-stands
 returns-in-Waits-None-clause-stands g c =
-    stands_none c.step-stepped.new.feed c.set_aside-standing.result.0 None refl c.set_aside-standing.ensures.place (sym c.set_aside-standing.ensures.given)
+    stands_none c.step-stepped.new.feed c.set_aside-standing.result.0 None refl c.set_aside-standing.ensures.place (sym c.set_aside-standing.ensures.given) (sym c.set_aside-standing.ensures.waiting)
     (none_there c.step-stepped.new.feed c.step-stepped.new.block c.in-Waits-None.field-0 c.in-Waits-None.field-0-is c.in-Waits-None.ensures.stands)
 
 pub returns-in-Waits-None-clause-turns : goal.returns-in-Waits-None-clause-turns
@@ -93,6 +93,8 @@ returns-in-Waits-Some-clause-stands g c = (
       begun_aside_as c.step-stepped.new.feed c.set_aside-standing.result.0 c.step-stepped.new.block c.in-Waits-Some.field-0-0 u (sym (ap (λ (w : Underway). w.text.value) same)) (sym (ap (λ (w : Underway). w.len) same))
       (sym (ap (λ (w : Underway). w.size) same)) (sym (ap (λ (w : Underway). w.kept) same)) c.set_aside-standing.ensures.place (sym c.set_aside-standing.ensures.given)
       (begun_there c.step-stepped.new.feed c.step-stepped.new.block c.in-Waits-Some.field-0 c.in-Waits-Some.field-0-0 c.in-Waits-Some.field-0-is c.in-Waits-Some.ensures.stands).1,
+  awaits_aside c.step-stepped.new.feed c.set_aside-standing.result.0 (take c.in-Waits-Some.field-0-0.len c.step-stepped.new.block) (sym c.set_aside-standing.ensures.given) (sym c.set_aside-standing.ensures.waiting)
+      (begun_there c.step-stepped.new.feed c.step-stepped.new.block c.in-Waits-Some.field-0 c.in-Waits-Some.field-0-0 c.in-Waits-Some.field-0-is c.in-Waits-Some.ensures.stands).2,
 )
 
 pub returns-in-Waits-Some-clause-turns : goal.returns-in-Waits-Some-clause-turns
@@ -120,3 +122,18 @@ returns-in-Waits-Some-clause-unstaged g c = c.in-Waits-Some.ensures.unstaged
 
 pub returns-in-Waits-Some-clause-rest : goal.returns-in-Waits-Some-clause-rest
 returns-in-Waits-Some-clause-rest g c = c.in-Waits-Some.ensures.rest
+
+pub returns-in-Done-clause-all : goal.returns-in-Done-clause-all
+returns-in-Done-clause-all g c = λ is. absurd (done_not_waits c.in-Done.end (sym c.turn_of.ensures ∙ is))
+
+pub returns-in-Waits-None-clause-all : goal.returns-in-Waits-None-clause-all
+returns-in-Waits-None-clause-all g c = λ _.
+    let back : reader_of c.step-stepped.new.feed ≡ c.reader-1.given.0 =
+    sym (c.reader-1.given.1 (sym (c.into_reader.ensures.same ∙ c.set_aside-standing.ensures.same ∙ c.in-Waits-None.ensures.same ∙ c.resume-feed.ensures.same)) ∙ c.into_reader.ensures.now ∙ c.set_aside-standing.ensures.reader) in
+    all_aside g.R.Read.remaining c.resume-feed.result c.step-stepped.new.feed c.args.due.most c.args.reader.now c.reader-1.given.0 c.resume-feed.ensures.most c.resume-feed.ensures.reader back c.in-Waits-None.ensures.all
+
+pub returns-in-Waits-Some-clause-all : goal.returns-in-Waits-Some-clause-all
+returns-in-Waits-Some-clause-all g c = λ _.
+    let back : reader_of c.step-stepped.new.feed ≡ c.reader-1.given.0 =
+    sym (c.reader-1.given.1 (sym (c.into_reader.ensures.same ∙ c.set_aside-standing.ensures.same ∙ c.in-Waits-Some.ensures.same ∙ c.resume-feed.ensures.same)) ∙ c.into_reader.ensures.now ∙ c.set_aside-standing.ensures.reader) in
+    all_aside g.R.Read.remaining c.resume-feed.result c.step-stepped.new.feed c.args.due.most c.args.reader.now c.reader-1.given.0 c.resume-feed.ensures.most c.resume-feed.ensures.reader back c.in-Waits-Some.ensures.all

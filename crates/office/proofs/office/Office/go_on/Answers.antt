@@ -3,7 +3,7 @@ use Rattle.std.specs.Prelude.{None, Some}
 use Rattle.wire.specs.Feeds.{reader_of, stood_at}
 use Rattle.wire.specs.Underways.{head_of}
 use Rattle.wire.specs.declared.feed.Place.TheVariants as place
-use Rattle.office.proofs.Asides.{HasSame, goes_from, holds_done, keeps_begun, keeps_resumed, resumed_begun, stands_begun, stands_done, tells_by, tells_done, turn_done, underway_aside}
+use Rattle.office.proofs.Asides.{HasSame, all_aside, awaits_aside, done_not_waits, goes_from, holds_done, keeps_begun, keeps_resumed, resumed_begun, stands_begun, stands_done, tells_by, tells_done, turn_done, underway_aside}
 use Rattle.office.proofs.office.Office.go_on.Goals as goal
 
 pub resume-resumed-requires : goal.resume-resumed-requires
@@ -43,7 +43,8 @@ returns-in-Done-clause-rest g c = rw c.turn_of.ensures (holds_done g.K.Keeper _ 
 pub returns-in-Waits-clause-stands : goal.returns-in-Waits-clause-stands
 returns-in-Waits-clause-stands g c =
     stands_begun c.set_aside-standing.result.0 c.in-Waits.underway
-    (underway_aside c.resume-resumed.new.feed c.set_aside-standing.result.0 c.in-Waits.underway c.set_aside-standing.ensures.place (sym c.set_aside-standing.ensures.given) c.in-Waits.ensures.stands)
+    (underway_aside c.resume-resumed.new.feed c.set_aside-standing.result.0 c.in-Waits.underway c.set_aside-standing.ensures.place (sym c.set_aside-standing.ensures.given) c.in-Waits.ensures.stands.0)
+    (awaits_aside c.resume-resumed.new.feed c.set_aside-standing.result.0 (head_of c.in-Waits.underway) (sym c.set_aside-standing.ensures.given) (sym c.set_aside-standing.ensures.waiting) c.in-Waits.ensures.stands.1)
 
 pub returns-in-Waits-clause-turns : goal.returns-in-Waits-clause-turns
 returns-in-Waits-clause-turns g c s kept =
@@ -67,3 +68,12 @@ returns-in-Waits-clause-unstaged g c = c.in-Waits.ensures.unstaged
 
 pub returns-in-Waits-clause-rest : goal.returns-in-Waits-clause-rest
 returns-in-Waits-clause-rest g c = c.in-Waits.ensures.rest
+
+pub returns-in-Done-clause-all : goal.returns-in-Done-clause-all
+returns-in-Done-clause-all g c = λ is. absurd (done_not_waits c.in-Done.end (sym c.turn_of.ensures ∙ is))
+
+pub returns-in-Waits-clause-all : goal.returns-in-Waits-clause-all
+returns-in-Waits-clause-all g c = λ _.
+    let back : reader_of c.resume-resumed.new.feed ≡ c.reader-1.given.0 =
+    sym (c.reader-1.given.1 (sym (c.into_reader.ensures.same ∙ c.set_aside-standing.ensures.same ∙ c.in-Waits.ensures.same ∙ c.resume-feed.ensures.same)) ∙ c.into_reader.ensures.now ∙ c.set_aside-standing.ensures.reader) in
+    all_aside g.R.Read.remaining c.resume-feed.result c.resume-resumed.new.feed c.args.due.most c.args.reader.now c.reader-1.given.0 c.resume-feed.ensures.most c.resume-feed.ensures.reader back c.in-Waits.ensures.all

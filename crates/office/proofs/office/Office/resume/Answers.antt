@@ -11,7 +11,7 @@ use Rattle.office.specs.Frames.{Quiet}
 use Rattle.office.specs.declared.connections.receiving.Received.TheVariants as received
 use Rattle.office.specs.declared.requests.foreseeing.Body.{Body}
 use Rattle.office.proofs.BodySteps.{has_come}
-use Rattle.office.proofs.BodyWaits.{either_way, some_is, stands_by, waits_not_gave_up}
+use Rattle.office.proofs.BodyWaits.{either_way, some_is, stands_by, still_awaits, waits_not_gave_up}
 use Rattle.office.proofs.Endings.{broken_not_gave_up, lacking_not_gave_up, whole_not_gave_up}
 use Rattle.office.proofs.Handlings.{closed_again, closed_faults}
 use Rattle.office.proofs.Holding.{holds_less, holds_then}
@@ -245,9 +245,11 @@ returns-in-Waits-clause-stands g c =
     let keeps = c.keep-kept.ensures in
     let head = head_of c.args.underway in
     let part = part_of g.K.Keeper head c.args.feed.now c.args.underway.kept is.result c.put_back-sha.new.self.keeper c.put_back-sha.result is.ensures c.requires.holds put.staged put.octets put.hashed in
-    let waits = either_way is.result r.passes (λ t. (r.stages t (part t)).0) in
-    still_begun g.R.Read.remaining g.K.Keeper size c.args.feed.now took.feed head c.args.underway.kept c.requires c.keep-kept.result took.self.keeper took.sha waits
-    (λ y at. sym is.ensures ∙ keeps.some.1 (some_is c.keep-kept.result y at)) (λ some. let t = is.ensures ∙ some in (r.stages t (part t)).1) keeps.kept
+    let waits = either_way is.result r.passes (λ t. (r.stages t (part t)).0) in (
+      still_begun g.R.Read.remaining g.K.Keeper size c.args.feed.now took.feed head c.args.underway.kept c.requires c.keep-kept.result took.self.keeper took.sha waits
+          (λ y at. sym is.ensures ∙ keeps.some.1 (some_is c.keep-kept.result y at)) (λ some. let t = is.ensures ∙ some in (r.stages t (part t)).1) keeps.kept,
+      still_awaits g.R.Read.remaining size c.args.feed.now took.feed head c.requires.whole waits,
+    )
 
 pub returns-in-Waits-clause-same : goal.returns-in-Waits-clause-same
 returns-in-Waits-clause-same g c = c.in-Waits.ensures.same
@@ -267,3 +269,6 @@ returns-in-Waits-clause-rest g c =
     let quiet : Quiet g.K.Keeper c.args.self.now.keeper c.keep-kept.new.self.keeper ⊥ =
     quiet_then (quiet_then c.put_back-sha.ensures.quiet (quiet_less waits_not_gave_up c.in-Waits.ensures.quiet)) c.keep-kept.ensures.quiet in
     quiet.rest
+
+pub returns-in-Waits-clause-all : goal.returns-in-Waits-clause-all
+returns-in-Waits-clause-all g c = c.in-Waits.ensures.all refl

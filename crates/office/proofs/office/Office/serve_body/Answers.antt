@@ -8,7 +8,7 @@ use Rattle.office.specs.Stepping.{IsExpected, Steps, TellsStep}
 use Rattle.office.specs.declared.requests.foreseeing.Body.{Body}
 use Rattle.office.specs.declared.connections.receiving.Received.TheVariants as received
 use Rattle.office.proofs.BodySteps.{broken_off_step, came_whole, given_up_step, lacking_step, whole_step}
-use Rattle.office.proofs.BodyWaits.{begun_from, begun_so, either_way, expected_first, part_first, short_head, some_is, stands_by, stands_first, taken_all, waits_kept, waits_not_gave_up, whole_left_first}
+use Rattle.office.proofs.BodyWaits.{awaits_more, begun_from, begun_so, either_way, expected_first, part_first, short_head, some_is, stands_by, stands_first, taken_all, waits_kept, waits_not_gave_up, whole_left_first}
 use Rattle.office.proofs.Stagings.{nothing_read}
 use Rattle.office.proofs.Endings.{broken_not_gave_up, lacking_not_gave_up, whole_not_gave_up}
 use Rattle.office.specs.Frames.{Quiet}
@@ -134,4 +134,7 @@ returns-in-Waits-clause-stands g c head has_length o readable len =
     let waits = either_way c.is_upload-upload.result r.passes (λ up. (r.stages up (held up)).0) in
     let begun = begun_from g.R.Read.remaining g.K.Keeper c.args.size c.args.feed.now took.feed c.args.foreseen o readable c.keep-kept.result c.is_upload-upload.result took.self.keeper took.sha waits c.is_upload-upload.ensures.0
     (λ k at. keeps.some.1 (some_is c.keep-kept.result k at)) (λ up. (r.stages up (held up)).1) keeps.kept in
-    (short_head o len, rw (taken_all head len) begun)
+    (short_head o len, rw (taken_all head len) begun, rw (taken_all head len) (awaits_more g.R.Read.remaining c.args.size c.args.feed.now took.feed head has_length o waits))
+
+pub returns-in-Waits-clause-all : goal.returns-in-Waits-clause-all
+returns-in-Waits-clause-all g c = c.in-Waits.ensures.all refl

@@ -87,3 +87,6 @@ returns-clause-stands g c o =
     (copied_front text _ _ (ap (λ (l : List ℕ). l ++ drop (length text) c.args.block.now) c.copy_from_slice.ensures.after)) (taken_all text refl) c.serve_body.ensures.long
     (c.serve_body.ensures.stands text c.args.opening.now.has_length o
     (λ up. subst IsReadable same (upload_readable (request_with c.announce_head-message.result []) c.foresee-foreseen.result up (c.foresee-foreseen.ensures.readable []))) refl)
+
+pub returns-clause-all : goal.returns-clause-all
+returns-clause-all g c = c.serve_body.ensures.all

@@ -1,7 +1,8 @@
-use Rattle.std.proofs.Common.{List, ℕ, Ok, ap, sym, ◌∙◌, ◌++◌}
+use Rattle.std.proofs.Common.{List, ℕ, Ok, ap, refl, sym, ◌∙◌, ◌++◌}
 use Rattle.sigv4.specs.Hashers.{ShaHolds}
-use Rattle.wire.proofs.Skips.{counts_none, lacks, skips_on}
-use Rattle.office.proofs.KeeperCalls.{on_ok, quiet_asked, quiet_less, quiet_then}
+use Rattle.wire.proofs.Skips.{counts_none, lacks, skipped_none, skips_on}
+use Rattle.wire.proofs.Spending.{spent_all, spent_none, spent_on, waits_none}
+use Rattle.office.proofs.KeeperCalls.{on_ok, quiet_asked, quiet_less, quiet_still, quiet_then}
 use Rattle.office.proofs.Stagings.{part_more, piece_size, stages_whole, stops}
 use Rattle.office.proofs.office.Office.stage_body.Goals as goal
 
@@ -29,6 +30,7 @@ pieces-preserved g c =
       quiet = quiet_then c.pieces.invariant.quiet
           (quiet_less (λ fault. on_ok ⊥ c.is_err.result c.stage_piece.result no_err c.if-is_err.false fault) (quiet_asked c.stage_piece.result took.rest));
       free = λ free. (f.4 (c.pieces.invariant.free free)).0;
+      spent = spent_on g.R.Read.remaining c.args.feed.now old new c.pieces.invariant.spent f.5.0;
     }
 
 pub returns-in-Ok-Done-clause-stages : goal.returns-in-Ok-Done-clause-stages
@@ -41,3 +43,22 @@ pub returns-in-Ok-Refused-clause-stages : goal.returns-in-Ok-Refused-clause-stag
 returns-in-Ok-Refused-clause-stages g c = λ _.
     lacks g.R.Read.remaining c.args.size c.args.feed.now c.pieces.feed c.piece.follows.lender-at-none c.piece.result c.in-Ok-Refused.field-0-0 c.pieces.invariant.skipped
     (c.in-Ok-Refused.is ∙ ap Ok c.in-Ok-Refused.field-0-is) c.piece.follows.holds-at-none.1
+
+pub pieces-init : goal.pieces-init
+pieces-init g c = record {
+  skipped = skipped_none g.R.Read.remaining c.args.size c.args.feed.now c.requires;
+  staged = λ first. first;
+  same = refl;
+  count = refl;
+  quiet = quiet_still;
+  free = λ free. free;
+  spent = spent_none g.R.Read.remaining c.args.feed.now;
+}
+
+pub returns-in-Err-Waits-clause-all : goal.returns-in-Err-Waits-clause-all
+returns-in-Err-Waits-clause-all g c = λ _.
+    let remaining = g.R.Read.remaining in
+    let f = c.piece.follows.holds-at-none in
+    let new = c.piece.follows.lender-at-none in
+    spent_all remaining c.args.feed.now new (spent_on remaining c.args.feed.now c.pieces.feed new c.pieces.invariant.spent f.5.0)
+    (waits_none new.backlog.most c.piece.result c.in-Err-Waits.field-0 c.in-Err-Waits.is f.5.1 c.in-Err-Waits.field-0-is)

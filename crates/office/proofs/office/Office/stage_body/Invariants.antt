@@ -1,5 +1,5 @@
 use Rattle.std.proofs.Common.{◌≡◌}
-use Rattle.wire.proofs.Skipping.{HasSkipped, to_come}
+use Rattle.wire.proofs.Skipping.{HasSkipped, HasSpent, to_come}
 use Rattle.wire.specs.Waiting.{IsFree}
 use Rattle.office.specs.Frames.{Quiet}
 use Rattle.office.specs.Receiving.{HoldsPart}
@@ -13,6 +13,7 @@ invariant-pieces g l = record {
   count : l.feed.reader.now.faults ≡ l.fn.feed.reader.now.faults;
   quiet : Quiet g.K.Keeper l.fn.self.keeper l.self.keeper ⊥;
   free : IsFree l.fn.feed.backlog → IsFree l.feed.backlog;
+  spent : HasSpent g.R.Read.remaining l.fn.feed l.feed;
 }
 
 abbrev pub decreases-pieces : goal.decreases-pieces

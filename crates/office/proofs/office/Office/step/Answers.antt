@@ -4,8 +4,10 @@ use Rattle.wire.specs.declared.fault.WireFault.TheVariants as fault
 use Rattle.wire.specs.declared.joining.Came.TheVariants as came
 use Rattle.wire.specs.Feeding.{a_head}
 use Rattle.office.proofs.SessionSteps.{brought_by, broke_off_by, ended_step, truncated_step, read_failed_step, closed_step, gave_up_reading_step, leaves_still}
-use Rattle.office.proofs.BodyWaits.{stands_by}
+use Rattle.wire.proofs.Spending.{spent_all}
+use Rattle.office.proofs.BodyWaits.{awaits_a_head, stands_by}
 use Rattle.office.proofs.KeeperCalls.{quiet_still}
+use Rattle.office.proofs.StepWaits.{all_after}
 use Rattle.office.proofs.office.Office.step.Goals as goal
 
 pub returns-in-Ok-Head-clause-steps : goal.returns-in-Ok-Head-clause-steps
@@ -73,4 +75,14 @@ pub returns-in-Err-Waits-clause-stands : goal.returns-in-Err-Waits-clause-stands
 returns-in-Err-Waits-clause-stands g c =
     let b = broke_off_by (place_of c.args.feed.now) (left g.R.Read.remaining c.args.feed.now) (left g.R.Read.remaining c.read_opening.new.feed) (g.R.Read.remaining (reader_of c.read_opening.new.feed).inner) (place_of c.read_opening.new.feed)
     c.in-Err-Waits.field-0 fault.Waits c.in-Err-Waits.field-0-is c.in-Err-Waits.ensures.fault in
-    (b.0, c.read_opening.ensures.given)
+    let none = c.read_opening.ensures.given in
+    (b.0, none, awaits_a_head c.read_opening.new.feed none (c.in-Err-Waits.ensures.waits c.in-Err-Waits.field-0-is))
+
+pub returns-in-Ok-Head-clause-all : goal.returns-in-Ok-Head-clause-all
+returns-in-Ok-Head-clause-all g c =
+    all_after g.R.Read.remaining c.args.feed.now c.read_opening.new.feed c.serve_head.new.feed c.serve_head.result c.in-Ok-Head.ensures.spends.0 c.serve_head.ensures.all
+
+pub returns-in-Err-Waits-clause-all : goal.returns-in-Err-Waits-clause-all
+returns-in-Err-Waits-clause-all g c =
+    let spends = c.in-Err-Waits.ensures.spends in
+    spent_all g.R.Read.remaining c.args.feed.now c.read_opening.new.feed spends.0 (spends.1 c.in-Err-Waits.field-0-is)

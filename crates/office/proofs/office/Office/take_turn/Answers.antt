@@ -181,3 +181,35 @@ returns-then-is_some-clause-faults g c =
     let seat = c.args.seat.now in
     let e = some_of seat.end (sym (ap is_some c.end.ensures) ∙ sym c.is_some.ensures ∙ c.if-is_some.true) in
     subst (λ (o : Option SessionEnd). TellsTurnOf o seat seat) (sym e.1) refl
+
+pub returns-then-is_some-clause-all : goal.returns-then-is_some-clause-all
+returns-then-is_some-clause-all g c = λ other. absurd (other refl)
+
+pub returns-then-is_some-clause-awaits : goal.returns-then-is_some-clause-awaits
+returns-then-is_some-clause-awaits g c = λ other. absurd (other refl)
+
+pub returns-then-seat-ge-MOST_MESSAGES-clause-all : goal.returns-then-seat-ge-MOST_MESSAGES-clause-all
+returns-then-seat-ge-MOST_MESSAGES-clause-all g c = λ other. absurd (other refl)
+
+pub returns-then-seat-ge-MOST_MESSAGES-clause-awaits : goal.returns-then-seat-ge-MOST_MESSAGES-clause-awaits
+returns-then-seat-ge-MOST_MESSAGES-clause-awaits g c = λ other. absurd (other refl)
+
+pub returns-in-Answered-clause-all : goal.returns-in-Answered-clause-all
+returns-in-Answered-clause-all g c = λ other. absurd (other refl)
+
+pub returns-in-Answered-clause-awaits : goal.returns-in-Answered-clause-awaits
+returns-in-Answered-clause-awaits g c = λ other. absurd (other refl)
+
+pub returns-in-Ended-clause-all : goal.returns-in-Ended-clause-all
+returns-in-Ended-clause-all g c = λ other. absurd (other refl)
+
+pub returns-in-Ended-clause-awaits : goal.returns-in-Ended-clause-awaits
+returns-in-Ended-clause-awaits g c = λ other. absurd (other refl)
+
+pub returns-in-ReadOn-clause-all : goal.returns-in-ReadOn-clause-all
+returns-in-ReadOn-clause-all g c = λ _. c.turn_aside-aside.ensures.all c.in-ReadOn.is
+
+pub returns-in-ReadOn-clause-awaits : goal.returns-in-ReadOn-clause-awaits
+returns-in-ReadOn-clause-awaits g c = λ _.
+    let stands = rw c.in-ReadOn.is at c.turn_aside-aside.ensures.stands in
+    stands.2

@@ -46,3 +46,9 @@ returns-in-Some-clause-unstaged g c = c.go_on.ensures.unstaged
 
 pub returns-in-Some-clause-rest : goal.returns-in-Some-clause-rest
 returns-in-Some-clause-rest g c = c.go_on.ensures.rest
+
+pub returns-in-None-clause-all : goal.returns-in-None-clause-all
+returns-in-None-clause-all g c = c.begin.ensures.all
+
+pub returns-in-Some-clause-all : goal.returns-in-Some-clause-all
+returns-in-Some-clause-all g c = c.go_on.ensures.all
