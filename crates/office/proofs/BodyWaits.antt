@@ -1,5 +1,5 @@
 -- Steps that wait within a body.
-use Rattle.std.proofs.Common.{◌≡◌, ◌≢◌, ◌∙◌, ◌≤◌, ◌-◌, ℕ, Bool, true, false, List, [], ◌++◌, length, replicate, take, Option, None, Some, Result, Ok, Err, ap, arith, refl, sym, subst}
+use Rattle.std.proofs.Common.{◌≡◌, ◌∙◌, ◌≤◌, ◌-◌, ℕ, Bool, true, false, List, [], ◌++◌, length, replicate, take, Option, None, Some, Result, ap, arith, refl, sym, subst}
 use Rattle.std.specs.Prelude.{IfSome, IsFalse, IsSome, IsTrue}
 use Rattle.std.specs.Option.{ForSome}
 use Rattle.std.specs.Io.KnownBytes.{Keeps, prepend_known}
@@ -19,7 +19,7 @@ use Rattle.wire.specs.Feeding.{Awaits, AwaitsHead, a_head, Opens}
 use Rattle.wire.specs.Feeds.{given_of, left, place_of, waits_in, whole_left}
 use Rattle.wire.specs.Framing.{IsFront, request_of}
 use Rattle.wire.specs.Underways.{IsBegun, IsKept, IsWholeHead}
-use Rattle.wire.specs.Whole.{IsOpening, StandsIn, WaitsWithin}
+use Rattle.wire.specs.Whole.{StandsIn, WaitsWithin}
 use Rattle.wire.specs.declared.counted.Counted.{Counted}
 use Rattle.wire.specs.declared.feed.Feed.{Feed}
 use Rattle.wire.specs.declared.feed.Place.TheVariants as place

@@ -4,7 +4,6 @@ use Rattle.std.specs.Prelude.{IsFalse, IsTrue, OnErr, OnOk}
 use Rattle.std.specs.Result.{is_err}
 use Rattle.sigtext.specs.Counts.{CountsErrors, Rose}
 use Rattle.sigtext.specs.declared.refusal.Refusal.{Refusal}
-use Rattle.boxes.specs.State.{State}
 use Rattle.boxes.specs.Bound.{StaysBy}
 use Rattle.boxes.specs.Keeping.{KeepsStaged}
 use Rattle.boxes.specs.declared.keep.KeepFault.{KeepFault}

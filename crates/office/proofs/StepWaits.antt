@@ -11,7 +11,7 @@ use Rattle.wire.specs.declared.feed.Feed.{Feed}
 use Rattle.wire.specs.declared.feed.Place.{Place}
 use Rattle.wire.proofs.Skipping.{HasSpent}
 use Rattle.wire.proofs.Spending.{spent_then}
-use Rattle.office.specs.Stepping.{AwaitsMore, HasHeadOf, MayHaveGivenUp, ReadsOn, StandsBy, StepsTo, TakesAllFirst, WaitsBehind}
+use Rattle.office.specs.Stepping.{AwaitsMore, HasHeadOf, MayHaveGivenUp, ReadsOn, StepsTo, TakesAllFirst, WaitsBehind}
 use Rattle.office.specs.declared.connections.stepping.Begun.{Begun}
 use Rattle.office.specs.declared.connections.stepping.Stepped.{Stepped}
 use Rattle.office.specs.declared.connections.stepping.Stepped.TheVariants as stepped

@@ -18,7 +18,7 @@ use Rattle.wire.specs.declared.feed.Place.TheVariants as place
 use Rattle.wire.specs.declared.session.SessionEnd.{SessionEnd}
 use Rattle.wire.specs.declared.session.SessionEnd.TheVariants.{ReadFault, WriteFault}
 use Rattle.office.specs.Connections.{MayGiveUp}
-use Rattle.office.specs.Crashes.{AddsAsked, AddsStanding, IsAsked}
+use Rattle.office.specs.Crashes.{AddsStanding}
 use Rattle.office.specs.Handling.{Handles, end_of}
 use Rattle.office.specs.Premise.{HoldsUp, IsLeft}
 use Rattle.office.specs.Stepping.{AwaitsMore, IsClosed, StandsBy, Steps, TellsStep}

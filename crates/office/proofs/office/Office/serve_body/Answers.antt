@@ -1,10 +1,10 @@
-use Rattle.std.proofs.Common.{◌≡◌, ◌∙◌, ◌++◌, ℕ, List, [], Err, Ok, refl, subst, sym, arith, inl, inr}
-use Rattle.std.specs.Prelude.{IsSomeAnd, IsTrue, Option, OnErr}
+use Rattle.std.proofs.Common.{◌≡◌, ℕ, List, [], refl, subst, sym}
+use Rattle.std.specs.Prelude.{IsTrue, Option, OnErr}
 use Rattle.std.specs.Io.KnownBytes.{Consumes}
 use Rattle.sigtext.specs.Counts.{Rose}
 use Rattle.office.specs.Connections.{MayGiveUp}
 use Rattle.office.specs.Premise.{IsFault}
-use Rattle.office.specs.Stepping.{IsExpected, Steps, TellsStep}
+use Rattle.office.specs.Stepping.{Steps}
 use Rattle.office.specs.declared.requests.foreseeing.Body.{Body}
 use Rattle.office.specs.declared.connections.receiving.Received.TheVariants as received
 use Rattle.office.proofs.BodySteps.{broken_off_step, came_whole, given_up_step, lacking_step, whole_step}
@@ -12,11 +12,9 @@ use Rattle.office.proofs.BodyWaits.{awaits_more, begun_from, begun_so, either_wa
 use Rattle.office.proofs.Stagings.{nothing_read}
 use Rattle.office.proofs.Endings.{broken_not_gave_up, lacking_not_gave_up, whole_not_gave_up}
 use Rattle.office.specs.Frames.{Quiet}
-use Rattle.office.specs.Receiving.{HoldsPart}
 use Rattle.office.proofs.KeeperCalls.{on_err, on_ok, quiet_both, quiet_less, quiet_then}
-use Rattle.office.proofs.Holding.{holds_less, holds_then}
 use Rattle.office.proofs.SessionSteps.{before_quiet}
-use Rattle.wire.specs.Feeds.{left, reader_of, waits_in, whole_left}
+use Rattle.wire.specs.Feeds.{left, reader_of, waits_in}
 use Rattle.office.proofs.office.Office.serve_body.Goals as goal
 
 pub receive-requires : goal.receive-requires

@@ -1,9 +1,8 @@
 use Rattle.std.proofs.lemmas.Bool.{both_ways}
 use Rattle.std.proofs.Common.{◌≡◌, ◌∙◌, ◌++◌, List, ℕ, [], ap, drop, length, map, refl, subst, sym, take, inl}
-use Rattle.std.proofs.lemmas.Grind.{common_steps}
 use Rattle.sigtext.specs.Fields.{header_of}
 use Rattle.sigtext.specs.Request.{Request}
-use Rattle.wire.specs.Feeds.{left, reader_of}
+use Rattle.wire.specs.Feeds.{left}
 use Rattle.wire.specs.Framing.{request_of}
 use Rattle.office.specs.Announcing.{request_with}
 use Rattle.office.specs.Answering.{is_head}
@@ -13,7 +12,7 @@ use Rattle.sigtext.specs.Readable.{IsReadable}
 use Rattle.office.specs.Stepping.{IsExpected}
 use Rattle.office.proofs.BodySteps.{head_given_up_step}
 use Rattle.office.proofs.Foreseen.{upload_readable}
-use Rattle.office.proofs.Handlings.{read_given_up, same_request, closed_again}
+use Rattle.office.proofs.Handlings.{read_given_up, same_request}
 use Rattle.office.proofs.Holding.{holds_less, holds_then}
 use Rattle.office.specs.Frames.{Quiet}
 use Rattle.office.proofs.BodyWaits.{taken_all}

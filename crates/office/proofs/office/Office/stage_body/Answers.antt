@@ -1,9 +1,9 @@
-use Rattle.std.proofs.Common.{List, ℕ, Ok, ap, refl, sym, ◌∙◌, ◌++◌}
+use Rattle.std.proofs.Common.{List, ℕ, Ok, ap, refl, ◌∙◌, ◌++◌}
 use Rattle.sigv4.specs.Hashers.{ShaHolds}
 use Rattle.wire.proofs.Skips.{counts_none, lacks, skipped_none, skips_on}
 use Rattle.wire.proofs.Spending.{spent_all, spent_none, spent_on, waits_none}
 use Rattle.office.proofs.KeeperCalls.{on_ok, quiet_asked, quiet_less, quiet_still, quiet_then}
-use Rattle.office.proofs.Stagings.{part_more, piece_size, stages_whole, stops}
+use Rattle.office.proofs.Stagings.{part_more, stages_whole, stops}
 use Rattle.office.proofs.office.Office.stage_body.Goals as goal
 
 pub returns-then-is_err-clause-stages : goal.returns-then-is_err-clause-stages
