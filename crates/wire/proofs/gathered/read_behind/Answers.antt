@@ -1,4 +1,4 @@
-use Rattle.std.proofs.Common.{◌≡◌, ◌+◌, ◌++◌, ◌∙◌, List, ℕ, ap, take, length, arith}
+use Rattle.std.proofs.Common.{◌+◌, ◌++◌, ◌∙◌, List, ℕ, ap, take, length, arith}
 use Rattle.std.proofs.lemmas.List.{with_items_is}
 use Rattle.wire.proofs.Resized.{at_most, longer_front, longer_length}
 use Rattle.wire.proofs.gathered.read_behind.Goals as goal
