@@ -25,7 +25,6 @@ HONEST = 8
 LATE = 5.0  # how many seconds a file may take beyond what its line needs
 SOON = 2.0  # seconds in which a small request is answered, also beside the edits of the gate; a file's line needs 7
 OWN = 128 << 10  # the bytes that a refused body may take
-RUNS = 4  # the most runs of which the least memory counts
 ROOM = 64  # MB for bodies that come
 OTHER = "OTHERSECRET"
 
@@ -129,22 +128,25 @@ def test_stranger(drop, check):
         check("stranger: the answer", difference(peer.take(), answer(21)))
 
 
-def peak(drop, file, stream, owed, check):
-    """The peak memory of `drop replay` on this stream, in bytes: the least of a few runs. Linux counts it for each processor by
-    itself, and adds that up now and then: so each run keeps to one."""
-    name, peaks = drop.path("stream"), []
-    name.write_bytes(stream)
-    words = [drop.program, "replay", file, name, "--at", MOMENT]
-    for processor in sorted(os.sched_getaffinity(0))[:RUNS]:
-        process = subprocess.Popen(words, stdout=subprocess.PIPE, preexec_fn=lambda: os.sched_setaffinity(0, {processor}))
-        check("replayed: the answer", difference(process.stdout.read(), owed))
-        peaks.append(os.wait4(process.pid, 0)[2].ru_maxrss << 10)
-    return min(peaks)
+def held(drop, file, stream, owed, check):
+    """The memory of `drop replay` in bytes, while the last byte of this stream is still to come through a pipe."""
+    name = drop.path("stream")
+    os.mkfifo(name)
+    process = subprocess.Popen([drop.program, "replay", file, name, "--at", MOMENT], stdout=subprocess.PIPE)
+    with open(name, "wb") as pipe:
+        pipe.write(stream[:-1])
+        pipe.flush()
+        time.sleep(0.5)
+        taken = resident(process)
+        pipe.write(stream[-1:])
+    check("replayed: the answer", difference(process.communicate()[0], owed))
+    name.unlink()
+    return taken
 
 
 def test_replayed(drop, check):
     """The same in `drop replay`: a large body takes no more memory than a small one."""
     file, key = drop.office("replayed"), (ID, OTHER.encode())
-    peaks = [peak(drop, file, put(b"/in/s", b"s" * size, key=key), answer(21), check) for size in [300_000, 8 << 20]]
-    print(f"replayed: {(peaks[1] - peaks[0]) >> 10} KiB more")
-    check("replayed: the memory", f"{peaks[1] - peaks[0]} bytes" if peaks[1] - peaks[0] > OWN else None)
+    small, large = [held(drop, file, put(b"/in/s", b"s" * size, key=key), answer(21), check) for size in [300_000, 8 << 20]]
+    print(f"replayed: {(large - small) >> 10} KiB more")
+    check("replayed: the memory", f"{large - small} bytes" if large - small > OWN else None)
