@@ -55,10 +55,10 @@ def number_of(found):
     return int((re.search(rb"receipt (\d+) ", found) or [b"", b"0"])[1])
 
 
-def resident(process):
-    """The memory of the process in bytes, page by page: the sums in `status` are only about right."""
+def taken_by(process):
+    """The memory that the process has taken, in bytes, page by page: the sums in `status` are only about right."""
     text = pathlib.Path(f"/proc/{process.pid}/smaps_rollup").read_text()
-    return int(re.search(r"Rss:\s*(\d+) kB", text)[1]) << 10
+    return int(re.search(r"Anonymous:\s*(\d+) kB", text)[1]) << 10
 
 
 def small_requests(server, date, is_over, check):
@@ -118,10 +118,10 @@ def test_stranger(drop, check):
     large = put(b"/in/s", b"s" * (8 << 20), date=date, key=key)
     with Server(drop, file, 1, PATIENCE) as server, Peer(server.connect) as peer:
         check("stranger: a small body", difference(peer.ask(put(b"/in/s", b"s" * 300_000, date=date, key=key)), answer(21)))
-        before = resident(server.process)
+        before = taken_by(server.process)
         peer.socket.sendall(large[:-1])
         time.sleep(0.5)
-        taken = resident(server.process) - before
+        taken = taken_by(server.process) - before
         print(f"stranger: {taken >> 10} KiB")
         check("stranger: the memory", f"{taken} bytes" if taken > OWN else None)
         peer.socket.sendall(large[-1:])
@@ -137,7 +137,7 @@ def held(drop, file, stream, owed, check):
         pipe.write(stream[:-1])
         pipe.flush()
         time.sleep(0.5)
-        taken = resident(process)
+        taken = taken_by(process)
         pipe.write(stream[-1:])
     check("replayed: the answer", difference(process.communicate()[0], owed))
     name.unlink()
