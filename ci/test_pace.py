@@ -1,10 +1,11 @@
-"""Runs the proved program `drop serve` with large files at the pace of an ordinary line, beside as many strangers who send as
-much without a good link. Each file is taken, and in no more time than its line needs. Small requests are answered soon meanwhile.
+"""Runs the proved program `drop serve` with large files at the pace of an ordinary line, beside more strangers who send as much
+without a good link. Each file is taken, in no more time than its line needs, and no small request waits for a file.
 
 Expected values come from Python's `hashlib` and `hmac` (ci/expected.py) and the table of refusals in docs/RULES.md.
 """
 
 import concurrent.futures
+import contextlib
 import os
 import pathlib
 import re
@@ -14,16 +15,15 @@ import time
 
 from expected import ID, MOMENT, SECRET, answer, fetched, receipt
 from messages import get, put
-from peers import Peer, a_minute_ago
+from peers import SOON, Peer, a_minute_ago
 from program import difference
 from server import Server, open_office
 from test_crowd import add_office
 
 PATIENCE = 30
-SIZE, PACE, PART = 1 << 20, 150_000, 8192  # bytes; bytes a second; bytes sent at once
-HONEST = 8
+SIZE, PACE, PART = 8 << 20, 150_000, 8192  # bytes; bytes a second; bytes sent at once
+HONEST = 4
 LATE = 5.0  # how many seconds a file may take beyond what its line needs
-SOON = 2.0  # seconds in which a small request is answered, also beside the edits of the gate; a file's line needs 7
 OWN = 128 << 10  # the bytes that a refused body may take
 ROOM = 64  # MB for bodies that come
 OTHER = "OTHERSECRET"
@@ -128,12 +128,23 @@ def test_stranger(drop, check):
         check("stranger: the answer", difference(peer.take(), answer(21)))
 
 
+def opened(pipe, reader):
+    """The pipe, open for writing once the process reads it. An error if that has ended first."""
+    while reader.poll() is None:
+        with contextlib.suppress(OSError):
+            found = os.open(pipe, os.O_WRONLY | os.O_NONBLOCK)
+            os.set_blocking(found, True)
+            return found
+        time.sleep(0.01)
+    raise AssertionError("the program ended before it read")
+
+
 def held(drop, file, stream, owed, check):
     """The memory of `drop replay` in bytes, while the last byte of this stream is still to come through a pipe."""
     name = drop.path("stream")
     os.mkfifo(name)
     process = subprocess.Popen([drop.program, "replay", file, name, "--at", MOMENT], stdout=subprocess.PIPE)
-    with open(name, "wb") as pipe:
+    with open(opened(name, process), "wb") as pipe:
         pipe.write(stream[:-1])
         pipe.flush()
         time.sleep(0.5)
