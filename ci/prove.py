@@ -7,7 +7,7 @@ The code of `rt` does the work, and its counts are the last line. Four things ar
 - `rt` allows each check more memory than it was ever seen to take, so few run in parallel. Here it is half as much.
 - The crates with the most work behind them come first, by the seconds in ci/seconds.txt. `rt` counts lines.
 - Several processors take a quarter more time together than one takes alone. So a check has more than one only where no other
-  check could begin on them.
+  check could begin on them. It has all if everything that has not begun waits for it, also those on which a check is ending.
 - With `--program`, Rattle's own compiler builds the program, which stays in `crates/NAME/out`. It takes half as long as LLVM, whose
   program is a tenth faster. Without, both build it at the same time, and `rt` compares what both programs write.
 
@@ -152,14 +152,15 @@ class Lanes:
 
     def __init__(self, tasks, pool):
         self.tasks, self.pool = tasks, pool
-        self.free, self.memory = RT.processors(), MOST_MEMORY * RT.free()
+        self.all = self.free = RT.processors()
+        self.memory = MOST_MEMORY * RT.free()
         self.left, self.running = [it for it in in_order(tasks) if tasks[it][1]], {}
         # a crate without tests has a task for them all the same, with no seconds
         self.given = {it: NOTHING.get(it[1], True) for it in tasks if not tasks[it][1]}
 
     def begin(self):
         """Begins the tasks for which there is room."""
-        for key, jobs in next_tasks(self.tasks, self.left, self.given, self.free):
+        for key, jobs in next_tasks(self.tasks, self.left, self.given, self.free, self.all):
             while jobs > 1 and self.needs(key, jobs) > self.memory:
                 jobs -= 1
             needs = self.needs(key, jobs)
@@ -193,11 +194,23 @@ def in_order(tasks):
     return sorted(tasks, key=lambda it: -behind[it])
 
 
-def next_tasks(tasks, left, given, free):
+def next_tasks(tasks, left, given, free, lanes):
     """The tasks to begin now on the free processors, each with how many of them it has. Each has one, and the first has those that
-    are left over."""
-    ready = [it for it in left if all(below in given for below in tasks[it][0])][:free]
+    are left over, or all if all others wait for it."""
+    ready = [it for it in left if all(below in given for below in tasks[it][0])]
+    if free > 0 and len(ready) == 1 and those_behind(tasks, ready[0]).issuperset(left):
+        return [(ready[0], lanes)]
+    ready = ready[:max(free, 0)]
     return [(it, 1 if at else 1 + free - len(ready)) for at, it in enumerate(ready)]
+
+
+def those_behind(tasks, key):
+    """This task, those that wait for it, for one of those, and so on."""
+    found = {key}
+    for it in tasks:
+        if found.intersection(tasks[it][0]):
+            found.add(it)
+    return found
 
 
 def expected(tasks, lanes):
@@ -205,7 +218,7 @@ def expected(tasks, lanes):
     left, given = [it for it in in_order(tasks) if tasks[it][1]], {it for it in tasks if not tasks[it][1]}
     now, running = 0, []
     while left or running:
-        for key, jobs in next_tasks(tasks, left, given, lanes - sum(it[2] for it in running)):
+        for key, jobs in next_tasks(tasks, left, given, lanes - sum(it[2] for it in running), lanes):
             left.remove(key)
             heapq.heappush(running, (now + tasks[key][1] * (1 - PARALLEL + PARALLEL / jobs), key, jobs))
         now, key, _ = heapq.heappop(running)

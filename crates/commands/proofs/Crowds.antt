@@ -53,6 +53,7 @@ many_pass honest many = record {
             each_counted = crowd.each_counted;
             one_moment = crowd.one_moment;
             by_turns = crowd.by_turns;
+            read_on = crowd.read_on;
             begun = crowd.begun;
             repeats = crowd.repeats;
             faulty = crowd.faulty;

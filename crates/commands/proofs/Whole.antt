@@ -3,7 +3,7 @@ use Rattle.std.proofs.Common.{◌≡◌, ◌+◌, ◌++◌, ◌∙◌, Bool, ℕ
 use Rattle.std.specs.Prelude.{cond, is_some}
 use Rattle.boxes.specs.State.{State}
 use Rattle.boxes.specs.declared.keep.Keeper.{Ghosts}
-use Rattle.wire.specs.Crowds.{slot_at}
+use Rattle.wire.specs.Crowds.{GivenTurn, slot_at}
 use Rattle.wire.specs.declared.seat.Seat.{Seat}
 use Rattle.wire.specs.declared.gathered.Gathered.{Gathered}
 use Rattle.wire.specs.declared.outbox.Outbox.{Outbox}
@@ -58,7 +58,7 @@ module _ {C K L S E : Type 0} {gives : C → ℕ → C → Type 0} {told : L →
   pub service : {connections most to most' all turns : ℕ} {left : Gate L S} → connections ≡ to → most ≡ most' → gate ≡ left → listener ≡ gate.listener → length slots ≡ most
       → IsCounted gate connections rest guest slots outcome
       → (came gone : List (Seat (Gathered E) (Outbox E))) × HasPassed had to most' told are_ends left came gone
-      × (numbered : ℕ → ℕ) × (given : List ℕ) × HasGiven left.came turns given × (all ≡ turns + length given)
+      × (numbered : ℕ → ℕ) × (given : List GivenTurn) × HasGiven left.came turns given × (all ≡ turns + length given)
       × ((s : State) → WasKept k keeper keeper' s → (after : State) × IsLeft (k.means keeper') after
       × ServesCrowd gives remaining contents came gone slots clock clock' k keeper keeper' zero given outcome.faulty s after)
       → ServesMany gives had (told listener) are_ends remaining contents clock clock' k keeper keeper' connections most slots outcome

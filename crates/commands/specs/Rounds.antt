@@ -5,7 +5,7 @@ use Rattle.boxes.specs.State.{State}
 use Rattle.boxes.specs.declared.keep.Keeper.{Ghosts}
 use Rattle.wire.specs.declared.gathered.Gathered.{Gathered}
 use Rattle.wire.specs.declared.outbox.Outbox.{Outbox}
-use Rattle.wire.specs.Crowds.{slot_at, those_of}
+use Rattle.wire.specs.Crowds.{GivenTurn, slot_at, those_of}
 use Rattle.wire.specs.declared.seat.Seat.{Seat}
 use Rattle.office.specs.Crowds.{ServesCrowd}
 use Rattle.office.specs.Premise.{IsLeft, WasKept}
@@ -46,7 +46,7 @@ pub record ServesMany {C K S E : Type 0} (gives : C → ℕ → C → Type 0) (t
     (connections most : ℕ) (slots : List (Option (Seat (Gathered E) (Outbox E)))) (outcome : Outcome) : Type 0 where
   pub came : List (Seat (Gathered E) (Outbox E))
   pub gone : List (Seat (Gathered E) (Outbox E))
-  pub given : List ℕ
+  pub given : List GivenTurn
   pub accepts : Accepts told told' are_ends connections most came gone slots outcome
   -- left: how many more turns the loop might have given
   pub left : ℕ

@@ -5,11 +5,11 @@ use Rattle.std.specs.declared.io.Error.{Error}
 use Rattle.std.specs.declared.net.socket_addr.SocketAddrV4.{SocketAddrV4}
 use Rattle.boxes.specs.State.{State}
 use Rattle.office.specs.Connections.{TellsMoments}
-use Rattle.wire.specs.Crowds.{standing_in}
+use Rattle.wire.specs.Crowds.{GivenTurn, standing_in}
 use Rattle.office.specs.Crowds.{is_fault_end}
-use Rattle.office.specs.Interleaved.{GaveUpWithinMessages, Interleaved, SpeakInTurns, Thread, acts_in}
+use Rattle.office.specs.Interleaved.{GaveUpWithinMessages, Interleaved, SpeakInTurns, Thread, acts_in, given_by}
 use Rattle.office.specs.Repeats.{RepeatsOnce}
-use Rattle.office.specs.Seats.{AreThreads, HaveTurns, TellsOneMoment, turns_of}
+use Rattle.office.specs.Seats.{AreThreads, HaveReadOn, HaveTurns, TellsOneMoment, turns_of}
 use Rattle.wire.specs.declared.seat.Seat.{Seat}
 use Rattle.wire.specs.declared.gathered.Gathered.{Gathered}
 use Rattle.wire.specs.declared.outbox.Outbox.{Outbox}
@@ -27,7 +27,7 @@ use Rattle.commands.specs.declared.serving.Ending.TheVariants as ending_of
 -- Connections came, were served in turns from one state to the other, and went, as in `ServesCrowd`, which also says what the
 -- keeper makes of it.
 pub record TookTurns {C R W : Type 0} (gives : C → ℕ → C → Type 0) (remaining : R → Option (List ℕ)) (contents : W → Option (List ℕ)) (came gone : List (Seat R W)) (slots : List (Option (Seat R W)))
-    (clock clock' : C) (given : List ℕ) (faults : ℕ) (s after : State) : Type 0 where
+    (clock clock' : C) (given : List GivenTurn) (faults : ℕ) (s after : State) : Type 0 where
   pub seats : List (Seat R W)
   pub all : IsPermutation seats (gone ++ standing_in slots)
   pub taken : length given ≡ sum_by turns_of seats
@@ -36,10 +36,11 @@ pub record TookTurns {C R W : Type 0} (gives : C → ℕ → C → Type 0) (rema
   pub told : TellsMoments gives clock moments clock'
   pub served : AreThreads remaining contents came seats threads
   pub run : Interleaved s threads moments after
-  pub whose : map (λ t. zero + t.which) run.turns ≡ given
+  pub whose : map (given_by zero) run.turns ≡ given
   pub each_counted : HaveTurns run.turns 0 seats
   pub one_moment : AllByRecursion TellsOneMoment run.turns
   pub by_turns : SpeakInTurns run.turns 0 threads
+  pub read_on : HaveReadOn remaining run.turns 0 came threads
   pub begun : GaveUpWithinMessages run.turns 0 threads
   pub repeats : RepeatsOnce (acts_in run.turns)
   pub faulty : faults ≡ count_by (λ c. is_fault_end c.end) threads
@@ -50,7 +51,7 @@ pub record ServesFrom {C S E : Type 0} (gives : C → ℕ → C → Type 0) (tol
     (connections most : ℕ) (slots : List (Option (Seat (Gathered E) (Outbox E)))) (outcome : Outcome) (s after : State) (asked : Asked) : Type 0 where
   pub came : List (Seat (Gathered E) (Outbox E))
   pub gone : List (Seat (Gathered E) (Outbox E))
-  pub given : List ℕ
+  pub given : List GivenTurn
   pub accepts : Accepts told told' are_ends connections most came gone slots outcome
   pub left : ℕ
   pub gave : HasGiven (length came) left given

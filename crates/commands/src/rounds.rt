@@ -44,8 +44,8 @@ pub struct Served<L, E> {
     pub outcome: io::Result<Outcome>,
 }
 
-/// Accepts `limits.connections` connections of a listener and serves them in turns, one message at a time, in
-/// one loop that waits for none of them. The poll tells which sockets are ready; it must be new. The loop
+/// Accepts `limits.connections` connections of a listener and serves them in turns, in one loop that waits for
+/// none of them. A turn answers at most one message. The poll tells which sockets are ready; it must be new. The loop
 /// ends once all connections have come or were refused, and have gone.
 ///
 /// There is one order of all messages in which the machine leads from the state before to the state after.

@@ -4,6 +4,7 @@ use Rattle.std.specs.Prelude.{⊤, is_some, nat_eq}
 use Rattle.std.specs.List.{AllByRecursion, sum_by}
 use Rattle.std.proofs.lemmas.List.{length_push, map_push}
 use Rattle.std.proofs.lemmas.List.Sums.{sum_by-cons, sum_by-set, sum_by_push}
+use Rattle.wire.specs.Crowds.{GivenTurn}
 use Rattle.office.specs.Interleaved.{Turn, turns_by}
 use Rattle.office.specs.Seats.{TellsOneMoment}
 use Rattle.wire.specs.declared.session.SessionEnd.{SessionEnd}
@@ -26,9 +27,13 @@ abbrev pub AllTook : List Turn → ℕ → List Sitting → Type 0
 AllTook turns i [] = ⊤
 AllTook turns i (x ∷ xs) = (turns_by i turns ≡ took_of x) × AllTook turns (suc i) xs
 
--- The turns are of these connections, in this order.
-pub record Counts (turns : List Turn) (xs : List Sitting) (whose : List ℕ) : Type 0 where
-  pub in_order : map (λ (t : Turn). t.which) turns ≡ whose
+-- the turn as it was given, if no connection came before these
+abbrev pub turn_by : Turn → GivenTurn
+turn_by t = record { whose = t.which; most = t.most }
+
+-- These are the turns that were given, in this order.
+pub record Counts (turns : List Turn) (xs : List Sitting) (whose : List GivenTurn) : Type 0 where
+  pub in_order : map turn_by turns ≡ whose
   pub one_moment : AllByRecursion TellsOneMoment turns
   pub each : AllTook turns 0 xs
   pub all : length turns ≡ sum_by took_of xs
@@ -62,10 +67,10 @@ one_took turns t i (suc p) d new (x ∷ xs) is lt more h =
     let other : nat_eq t.which i ≡ false = grind (arith, is) in
     (by_other i turns t other ∙ h.0, one_took turns t (suc i) p d new xs (omega (arith, is)) (omega (arith, lt)) more h.1)
 
-pub counts_turn : {whose : List ℕ} (turns : List Turn) (xs : List Sitting) (t : Turn) (d new : Sitting) → t.which < length xs → TellsOneMoment t → took_of new ≡ took_of (get_or xs t.which d) + 1
-    → Counts turns xs whose → Counts (turns ++ t ∷ []) (set xs t.which new) (whose ++ t.which ∷ [])
+pub counts_turn : {whose : List GivenTurn} (turns : List Turn) (xs : List Sitting) (t : Turn) (d new : Sitting) → t.which < length xs → TellsOneMoment t → took_of new ≡ took_of (get_or xs t.which d) + 1
+    → Counts turns xs whose → Counts (turns ++ t ∷ []) (set xs t.which new) (whose ++ turn_by t ∷ [])
 counts_turn turns xs t d new lt one more h = record {
-  in_order = map_push (λ (u : Turn). u.which) turns t ∙ ap (λ (l : List ℕ). l ++ t.which ∷ []) h.in_order;
+  in_order = map_push turn_by turns t ∙ ap (λ (l : List GivenTurn). l ++ turn_by t ∷ []) h.in_order;
   one_moment = all_more TellsOneMoment turns t h.one_moment one;
   each = one_took turns t 0 t.which d new xs (omega arith) lt more h.each;
   all = let sums = sum_by-set took_of xs t.which new d lt in omega (arith, sums, more, h.all, length_push turns t);
@@ -78,7 +83,7 @@ still_took turns i p d new [] lt same h = absurd (omega (arith, lt))
 still_took turns i zero d new (x ∷ xs) lt same h = (h.0 ∙ sym same, h.1)
 still_took turns i (suc p) d new (x ∷ xs) lt same h = (h.0, still_took turns (suc i) p d new xs (omega (arith, lt)) same h.1)
 
-pub counts_still : {whose : List ℕ} (turns : List Turn) (xs : List Sitting) (p : ℕ) (d new : Sitting) → p < length xs → took_of new ≡ took_of (get_or xs p d) → Counts turns xs whose → Counts turns (set xs p new) whose
+pub counts_still : {whose : List GivenTurn} (turns : List Turn) (xs : List Sitting) (p : ℕ) (d new : Sitting) → p < length xs → took_of new ≡ took_of (get_or xs p d) → Counts turns xs whose → Counts turns (set xs p new) whose
 counts_still turns xs p d new lt same h = record {
   in_order = h.in_order;
   one_moment = h.one_moment;
@@ -105,7 +110,7 @@ took_more : (turns : List Turn) (i n : ℕ) (x : Sitting) (ys : List Sitting) �
 took_more turns i n x [] le within none h = (none_by i n turns (omega (arith, le)) within ∙ sym none, tt)
 took_more turns i n x (y ∷ ys) le within none h = (h.0, took_more turns (suc i) n x ys (omega (arith, le)) within none h.1)
 
-pub counts_more : {whose : List ℕ} (turns : List Turn) (xs : List Sitting) (x : Sitting) → AllByRecursion (λ t. t.which < length xs) turns → IsFirst x → Counts turns xs whose → Counts turns (xs ++ x ∷ []) whose
+pub counts_more : {whose : List GivenTurn} (turns : List Turn) (xs : List Sitting) (x : Sitting) → AllByRecursion (λ t. t.which < length xs) turns → IsFirst x → Counts turns xs whose → Counts turns (xs ++ x ∷ []) whose
 counts_more turns xs x within new h =
     let none = first_took x new in
     record {

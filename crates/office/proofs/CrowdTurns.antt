@@ -7,16 +7,17 @@ use Rattle.std.proofs.lemmas.List.Sums.{sum_by-cons, sum_by-set, sum_by_push}
 use Rattle.std.proofs.lemmas.Option.{slice_get_within}
 use Rattle.boxes.specs.declared.keep.Keeper.{Ghosts}
 use Rattle.boxes.specs.State.{State}
-use Rattle.wire.specs.Crowds.{Changes, IsOpenAt, number_of, numbers_after, slot_at, standing_in}
+use Rattle.wire.specs.Crowds.{Changes, GivenTurn, IsOpenAt, number_of, numbers_after, slot_at, standing_in}
 use Rattle.wire.specs.Crowds as crowd
 use Rattle.office.specs.Crowds.{ServesCrowd, TurnsSlot, fails_now, is_fault_end}
 use Rattle.office.specs.Crowds as in_turn
-use Rattle.office.specs.Interleaved.{Thread, Turn}
+use Rattle.office.specs.Interleaved.{Thread, Turn, given_by}
 use Rattle.office.specs.Premise.{IsLeft}
 use Rattle.wire.specs.Seats.{Gathers, IsNew, Sends}
-use Rattle.office.specs.Seats.{AreThreads, TakesTurn, TellsTurn}
+use Rattle.office.specs.Seats.{AreThreads, ReadsInFull, TakesTurn, TellsTurn}
 use Rattle.wire.specs.declared.seat.Seat.{Seat}
 use Rattle.wire.specs.declared.session.SessionEnd.{SessionEnd}
+use Rattle.office.proofs.Counting.{turn_by}
 use Rattle.office.proofs.RunSoFar.{MeansOne}
 use Rattle.office.proofs.SeatTurns.{AllTell, TurnsMore, as_many, gathered_seat, gathers_tell, seat_comes, sent_seat, tell_comes, tell_more, tell_sent, turns_more, weaves_last}
 use Rattle.wire.proofs.Standings.{all_comes, all_goes, all_none, all_set}
@@ -75,34 +76,37 @@ stands [] n x is = refl
 stands (y ∷ l) zero x is = let e : y ≡ x = cc in e
 stands (y ∷ l) (suc n) x is = stands l n x is
 
--- the numbers of the connections that have the turns
-whose_are : (first : ℕ) (turns : List Turn) → map (λ (t : Turn). first + t.which) turns ≡ map (λ n. first + n) (map (λ (t : Turn). t.which) turns)
+-- the turn, given after so many connections came
+abbrev given_behind : ℕ → GivenTurn → GivenTurn
+given_behind first g = record { whose = first + g.whose; most = g.most }
+
+whose_are : (first : ℕ) (turns : List Turn) → map (given_by first) turns ≡ map (given_behind first) (map turn_by turns)
 whose_are first [] = refl
-whose_are first (t ∷ ts) = ap (λ (l : List ℕ). (first + t.which) ∷ l) (whose_are first ts)
+whose_are first (t ∷ ts) = ap (λ (l : List GivenTurn). given_by first t ∷ l) (whose_are first ts)
 
 module _ {R W : Type 0} (remaining : R → Option (List ℕ)) (contents : W → Option (List ℕ)) where
   -- ---- so far
 
-  pub record CrowdSoFar {C K : Type 0} (gives : C → ℕ → C → Type 0) (k : Ghosts K) (slots : List (Option (Seat R W))) (came gone : List (Seat R W)) (first : ℕ) (numbers : ℕ → ℕ) (given : List ℕ)
+  pub record CrowdSoFar {C K : Type 0} (gives : C → ℕ → C → Type 0) (k : Ghosts K) (slots : List (Option (Seat R W))) (came gone : List (Seat R W)) (first : ℕ) (numbers : ℕ → ℕ) (given : List GivenTurn)
       (clock clock' : C) (keeper keeper' : K) (faults : ℕ) (s mid : State) : Type 0 where
     pub seats : List (Seat R W)
     pub number : ℕ → ℕ
     pub ties : Ties slots number seats
     pub numbered : AreNumbered slots numbers first number
     pub all : IsPermutation seats (gone ++ standing_in slots)
-    pub whose : List ℕ
+    pub whose : List GivenTurn
     pub turned : TurnsMore remaining contents gives k came seats whose clock clock' keeper keeper' s mid
-    pub are_given : map (λ n. first + n) whose ≡ given
+    pub are_given : map (given_behind first) whose ≡ given
     pub tell : AllTell came seats
     pub faulty : faults ≡ faults_in seats
 
   module _ {C K : Type 0} (gives : C → ℕ → C → Type 0) (k : Ghosts K) (first : ℕ) (clock : C) (keeper : K) (s : State) where
-    abbrev Now : List (Option (Seat R W)) → (ℕ → ℕ) → List (Seat R W) → List (Seat R W) → List ℕ → C → K → ℕ → State → Type 0
+    abbrev Now : List (Option (Seat R W)) → (ℕ → ℕ) → List (Seat R W) → List (Seat R W) → List GivenTurn → C → K → ℕ → State → Type 0
     Now slots numbers came gone given clock' keeper' faults mid = CrowdSoFar gives k slots came gone first numbers given clock clock' keeper keeper' faults s mid
 
     -- ---- between two turns
 
-    module _ (given : List ℕ) (clock' : C) (keeper' : K) (faults : ℕ) (mid : State) where
+    module _ (given : List GivenTurn) (clock' : C) (keeper' : K) (faults : ℕ) (mid : State) where
       abbrev Still : List (Option (Seat R W)) → (ℕ → ℕ) → List (Seat R W) → List (Seat R W) → Type 0
       Still slots numbers came gone = Now slots numbers came gone given clock' keeper' faults mid
 
@@ -198,11 +202,11 @@ module _ {R W : Type 0} (remaining : R → Option (List ℕ)) (contents : W → 
 
     -- ---- a turn
 
-    module _ (slots : List (Option (Seat R W))) (numbers : ℕ → ℕ) (came gone : List (Seat R W)) (given : List ℕ) (clock' clock'' : C) (keeper' keeper'' : K) (faults : ℕ) (mid after : State) where
+    module _ (slots : List (Option (Seat R W))) (numbers : ℕ → ℕ) (came gone : List (Seat R W)) (given : List GivenTurn) (most : Option ℕ) (clock' clock'' : C) (keeper' keeper'' : K) (faults : ℕ) (mid after : State) where
       takes_more : (p : ℕ) (old new : Seat R W) → p < length slots → slot_at slots p ≡ Some old → old.end ≡ None
-          → TakesTurn gives remaining contents old new clock' clock'' k keeper' keeper'' mid after → TellsTurn old new → Now slots numbers came gone given clock' keeper' faults mid
-          → Now (set slots p (Some new)) numbers came gone (given ++ numbers p ∷ []) clock'' keeper'' (faults + cond (fails_now old.end new.end) 1 0) after
-      takes_more p old new lt at is_open turn tells t =
+          → TakesTurn gives remaining contents old new clock' clock'' k keeper' keeper'' mid after → TellsTurn old new → ReadsInFull remaining most old new → Now slots numbers came gone given clock' keeper' faults mid
+          → Now (set slots p (Some new)) numbers came gone (given ++ record { whose = numbers p; most = most } ∷ []) clock'' keeper'' (faults + cond (fails_now old.end new.end) 1 0) after
+      takes_more p old new lt at is_open turn tells full t =
           let n = t.number p in
           let one = t.ties.each p old at in
           let fits = slice_get_within t.seats n old one in
@@ -215,41 +219,44 @@ module _ {R W : Type 0} (remaining : R → Option (List ℕ)) (contents : W → 
             ties = ties_set slots t.number t.seats t.ties p lt old new at;
             numbered = numbered_set slots t.number t.seats t.ties p lt old new at numbers first t.numbered;
             all = all_set t.seats gone slots t.all p lt n old new fits is at;
-            whose = t.whose ++ n ∷ [];
-            turned = turns_more remaining contents gives k came t.seats clock clock' clock'' keeper keeper' keeper'' s mid after n old new fits open_there
-                (subst (λ (x : Seat R W). TakesTurn gives remaining contents x new clock' clock'' k keeper' keeper'' mid after) is turn) t.turned;
-            are_given = map_push (λ m. first + m) t.whose n ∙ ap (λ (l : List ℕ). l ++ (first + n) ∷ []) t.are_given ∙ ap (λ (m : ℕ). given ++ m ∷ []) (sym (t.numbered p old at));
+            whose = t.whose ++ record { whose = n; most = most } ∷ [];
+            turned = turns_more remaining contents gives k came t.seats clock clock' clock'' keeper keeper' keeper'' s mid after n old new fits open_there most
+                (subst (λ (x : Seat R W). TakesTurn gives remaining contents x new clock' clock'' k keeper' keeper'' mid after) is turn) (subst (λ (x : Seat R W). ReadsInFull remaining most x new) is full) t.turned;
+            are_given =
+                let one : GivenTurn = record { whose = n; most = most } in
+                map_push (given_behind first) t.whose one ∙ ap (λ (l : List GivenTurn). l ++ given_behind first one ∷ []) t.are_given
+                ∙ ap (λ (m : ℕ). given ++ record { whose = m; most = most } ∷ []) (sym (t.numbered p old at));
             tell = tell_more came t.seats n old new fits (subst (λ (x : Seat R W). TellsTurn x new) is tells) t.tell;
             faulty = let set_one = faults_set t.seats n old new fits open_there in omega (arith, t.faulty, set_one, told);
           }
 
       slot_turns : (p : ℕ) (was now : Option (Seat R W)) (failed : Bool) (seat : Seat R W) → p < length slots → slot_at slots p ≡ was → was ≡ Some seat → seat.end ≡ None
-          → TurnsSlot gives remaining contents clock' clock'' k keeper' keeper'' mid after was now failed → Now slots numbers came gone given clock' keeper' faults mid
-          → Now (set slots p now) numbers came gone (given ++ numbers p ∷ []) clock'' keeper'' (faults + cond failed 1 0) after
+          → TurnsSlot gives remaining contents most clock' clock'' k keeper' keeper'' mid after was now failed → Now slots numbers came gone given clock' keeper' faults mid
+          → Now (set slots p now) numbers came gone (given ++ record { whose = numbers p; most = most } ∷ []) clock'' keeper'' (faults + cond failed 1 0) after
       slot_turns p _ _ _ seat lt at there is_open (in_turn.nobody same_clock same_keeper same_state) t = absurd (none_is seat there)
-      slot_turns p _ _ _ seat lt at there is_open (in_turn.taken old new turn tells) t =
-          takes_more p old new lt at (subst (λ (x : Seat R W). x.end ≡ None) (sym (some_is old seat there)) is_open) turn tells t
+      slot_turns p _ _ _ seat lt at there is_open (in_turn.taken old new turn tells full) t =
+          takes_more p old new lt at (subst (λ (x : Seat R W). x.end ≡ None) (sym (some_is old seat there)) is_open) turn tells full t
 
       -- the same for a slot whose turn is due
       pub turned_more : (faults' p : ℕ) (now : Option (Seat R W)) (failed : Bool) → IsOpenAt slots p → faults' ≡ faults + cond failed 1 0
-          → TurnsSlot gives remaining contents clock' clock'' k keeper' keeper'' mid after (slot_at slots p) now failed → Now slots numbers came gone given clock' keeper' faults mid
-          → Now (set slots p now) numbers came gone (given ++ numbers p ∷ []) clock'' keeper'' faults' after
+          → TurnsSlot gives remaining contents most clock' clock'' k keeper' keeper'' mid after (slot_at slots p) now failed → Now slots numbers came gone given clock' keeper' faults mid
+          → Now (set slots p now) numbers came gone (given ++ record { whose = numbers p; most = most } ∷ []) clock'' keeper'' faults' after
       turned_more faults' p now failed due counted turn t =
-          subst (λ m. Now (set slots p now) numbers came gone (given ++ numbers p ∷ []) clock'' keeper'' m after) (sym counted)
+          subst (λ m. Now (set slots p now) numbers came gone (given ++ record { whose = numbers p; most = most } ∷ []) clock'' keeper'' m after) (sym counted)
           (slot_turns p (slot_at slots p) now failed due.1 due.0 refl due.2 due.3 turn t)
 
     -- ---- the end
 
-    pub crowd_ends : (slots : List (Option (Seat R W))) (numbers : ℕ → ℕ) (came gone : List (Seat R W)) (given : List ℕ) (clock' : C) (keeper' : K) (faults : ℕ) (mid : State) → MeansOne k keeper'
+    pub crowd_ends : (slots : List (Option (Seat R W))) (numbers : ℕ → ℕ) (came gone : List (Seat R W)) (given : List GivenTurn) (clock' : C) (keeper' : K) (faults : ℕ) (mid : State) → MeansOne k keeper'
         → IsLeft (k.means keeper') mid → Now slots numbers came gone given clock' keeper' faults mid
         → ServesCrowd gives remaining contents came gone slots clock clock' k keeper keeper' first given faults s mid
     crowd_ends slots numbers came gone given clock' keeper' faults mid one left t =
         let w = weaves_last remaining contents gives k came t.seats clock clock' keeper keeper' s mid t.turned t.tell one left in
-        let are : map (λ (u : Turn). first + u.which) w.run.turns ≡ given = whose_are first w.run.turns ∙ ap (map (λ n. first + n)) w.in_order ∙ t.are_given in
+        let are : map (given_by first) w.run.turns ≡ given = whose_are first w.run.turns ∙ ap (map (given_behind first)) w.in_order ∙ t.are_given in
         record {
           seats = t.seats;
           all = t.all;
-          taken = ap length (sym are) ∙ length-map w.run.turns (λ (u : Turn). first + u.which) ∙ w.all;
+          taken = ap length (sym are) ∙ length-map w.run.turns (given_by first) ∙ w.all;
           threads = w.threads;
           moments = w.moments;
           told = w.told;
@@ -259,6 +266,7 @@ module _ {R W : Type 0} (remaining : R → Option (List ℕ)) (contents : W → 
           each_counted = w.each_counted;
           one_moment = w.one_moment;
           by_turns = w.by_turns;
+          read_on = w.read_on;
           begun = w.begun;
           repeats = w.repeats;
           stays = w.stays;
@@ -292,10 +300,11 @@ pub fails_closed : (e e' : Option SessionEnd) (b : Bool) → not b ≡ is_some e
 fails_closed None e' b h is = let both : not false ≡ false = subst (λ (x : Bool). not x ≡ false) is h in absurd cc
 fails_closed (Some e) e' b h is = refl
 
-module _ {R W C K : Type 0} (remaining : R → Option (List ℕ)) (contents : W → Option (List ℕ)) (gives : C → ℕ → C → Type 0) (k : Ghosts K) (clock clock' : C) (keeper keeper' : K) (s after : State) where
+module _ {R W C K : Type 0} (remaining : R → Option (List ℕ)) (contents : W → Option (List ℕ)) (most : Option ℕ) (gives : C → ℕ → C → Type 0) (k : Ghosts K) (clock clock' : C) (keeper keeper' : K) (s after : State) where
   pub taken_by : (slot slot' : Option (Seat R W)) (failed : Bool) (old new : Seat R W) → slot ≡ Some old → slot' ≡ Some new → failed ≡ fails_now old.end new.end
-      → TakesTurn gives remaining contents old new clock clock' k keeper keeper' s after → TellsTurn old new → TurnsSlot gives remaining contents clock clock' k keeper keeper' s after slot slot' failed
-  taken_by slot slot' failed old new is is' told turn tells =
-      subst (λ o. TurnsSlot gives remaining contents clock clock' k keeper keeper' s after o slot' failed) (sym is)
-      (subst (λ o. TurnsSlot gives remaining contents clock clock' k keeper keeper' s after (Some old) o failed) (sym is')
-      (subst (TurnsSlot gives remaining contents clock clock' k keeper keeper' s after (Some old) (Some new)) (sym told) (in_turn.taken old new turn tells)))
+      → TakesTurn gives remaining contents old new clock clock' k keeper keeper' s after → TellsTurn old new → ReadsInFull remaining most old new
+      → TurnsSlot gives remaining contents most clock clock' k keeper keeper' s after slot slot' failed
+  taken_by slot slot' failed old new is is' told turn tells full =
+      subst (λ o. TurnsSlot gives remaining contents most clock clock' k keeper keeper' s after o slot' failed) (sym is)
+      (subst (λ o. TurnsSlot gives remaining contents most clock clock' k keeper keeper' s after (Some old) o failed) (sym is')
+      (subst (TurnsSlot gives remaining contents most clock clock' k keeper keeper' s after (Some old) (Some new)) (sym told) (in_turn.taken old new turn tells full)))

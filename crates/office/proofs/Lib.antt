@@ -38,6 +38,7 @@ pub mod Sitting
 pub mod Weaving
 pub mod Counting
 pub mod CrowdTurns
+mod Needs
 pub mod WithoutInTurn
 pub mod Endings
 pub mod Turns

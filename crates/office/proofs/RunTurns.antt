@@ -1,5 +1,5 @@
 -- Connections that are served one after another are also served in turns.
-use Rattle.std.proofs.Common.{◌≡◌, ◌<◌, ◌≤◌, ◌+◌, ℕ, suc, Bool, true, false, cond, List, [], ◌∷◌, ◌++◌, length, map, Option, Some, ⊎_elim, inl, inr, refl, sym, ap, subst, ◌∙◌, arith}
+use Rattle.std.proofs.Common.{◌≡◌, ◌<◌, ◌≤◌, ◌+◌, ℕ, suc, Bool, true, false, cond, List, [], ◌∷◌, ◌++◌, length, map, Option, None, Some, ⊎_elim, inl, inr, refl, sym, ap, subst, ◌∙◌, arith}
 use Rattle.std.specs.Prelude.{nat_eq}
 use Rattle.std.specs.List.{AllByRecursion}
 use Rattle.std.proofs.lemmas.List.{append-nil}
@@ -96,7 +96,7 @@ run_turns s after [] moments i h = record { turns = []; order = h.1; told = h.0;
 run_turns s after (c ∷ cs) moments i (first, others, mid, joined, here, more) =
     let x = session_acts most_messages c.stream s first c.answers c.end c.gave_up mid here in
     let y = run_turns mid after cs others (suc i) more in
-    let t : Turn = record { which = i; moments = first; acts = x.acts } in
+    let t : Turn = record { which = i; most = None; moments = first; acts = x.acts } in
     let none = none_own i (suc i + length cs) y.turns y.later in
     let acts : own_acts i (t ∷ y.turns) ≡ x.acts = ap (λ b. cond b x.acts [] ++ own_acts i y.turns) (same_is i) ∙ ap (λ (r : List Act). x.acts ++ r) none.0 ∙ append-nil x.acts in
     let moments_are : own_moments i (t ∷ y.turns) ≡ first = ap (λ b. cond b first [] ++ own_moments i y.turns) (same_is i) ∙ ap (λ (r : List ℕ). first ++ r) none.1 ∙ append-nil first in

@@ -12,23 +12,25 @@ use Rattle.wire.specs.declared.feed.Place.{Place}
 use Rattle.wire.specs.declared.standing.Standing.{Standing}
 use Rattle.office.specs.Connections.{TellsMoments}
 use Rattle.office.specs.Crashes.{Survives}
-use Rattle.office.specs.Interleaved.{GaveUpWithinMessages, HaveGivenUp, Interleaved, SpeakInTurns, Thread, Turn, acts_in}
+use Rattle.office.specs.Interleaved.{GaveUpWithinMessages, HaveGivenUp, Interleaved, ReadOn, SpeakInTurns, Thread, Turn, acts_in, own_turns}
 use Rattle.office.specs.Premise.{IsLeft}
 use Rattle.office.specs.Repeats.{RepeatsOnce}
+use Rattle.wire.specs.Crowds.{GivenTurn}
 use Rattle.wire.specs.Seats.{Gathers, Sends, IsNew, left_behind, left_of}
-use Rattle.office.specs.Seats.{AreThreads, HaveTurns, LastsOver, IsStreamOf, StaysSo, TakesTurn, TellsOneMoment, TellsTurn, TellsTurnOf, had_ended, went_on, read_on, ended, turns_of, waits_of}
+use Rattle.office.specs.Seats.{AreThreads, HaveReadOn, HaveTurns, LastsOver, IsStreamOf, ReadsInFull, StaysSo, TakesTurn, TellsOneMoment, TellsTurn, TellsTurnOf, had_ended, went_on, read_on, ended, turns_of, waits_of}
 use Rattle.office.specs.Sessions.{most_messages}
 use Rattle.office.specs.Stepping.{Steps, TellsStep}
 use Rattle.wire.specs.declared.seat.Seat.{Seat}
 use Rattle.wire.specs.declared.underway.Underway.{Underway}
 use Rattle.wire.specs.declared.session.SessionEnd.{SessionEnd}
-use Rattle.office.proofs.Counting.{AllTook, took_of}
+use Rattle.office.proofs.Counting.{AllTook, took_of, turn_by}
 use Rattle.office.proofs.Endurance.{survives_more}
 use Rattle.office.proofs.Repeats.{repeats_once}
+use Rattle.office.proofs.Needs.{more_needed}
 use Rattle.office.proofs.RunSoFar.{MeansOne}
 use Rattle.office.proofs.Sitting.{Lost, Sitting, answered, closed, gathered, reads_on, sent_on}
 use Rattle.wire.proofs.Ties.{none_is}
-use Rattle.office.proofs.Weaving.{AreThreadsOf, IsThreadOf, SoFar, all_last, answered_more, closed_more, finishes, gathered_more, lost_of, none_gave_up, opens, read_on_more, sent_more, threads_rose}
+use Rattle.office.proofs.Weaving.{AllReadOn, AreThreadsOf, IsThreadOf, SoFar, all_last, answered_more, closed_more, finishes, gathered_more, lost_of, none_gave_up, opens, read_on_more, sent_more, threads_rose}
 
 -- the same step, with equal places and bytes
 pub steps_by : {C K : Type 0} (gives : C → ℕ → C → Type 0) (p p' : Place) (old old' new new' reader reader' output output' : Option (List ℕ)) (clock clock' : C) (k : Ghosts K) (keeper keeper' : K) (s : State) (e : Option SessionEnd)
@@ -164,7 +166,7 @@ module _ {R W : Type 0} (remaining : R → Option (List ℕ)) (contents : W → 
 
   -- ---- a turn
 
-  pub record TurnsMore {C K : Type 0} (gives : C → ℕ → C → Type 0) (k : Ghosts K) (fs ns : List (Seat R W)) (whose : List ℕ) (clock clock' : C) (keeper keeper' : K) (s after : State) : Type 0 where
+  pub record TurnsMore {C K : Type 0} (gives : C → ℕ → C → Type 0) (k : Ghosts K) (fs ns : List (Seat R W)) (whose : List GivenTurn) (clock clock' : C) (keeper keeper' : K) (s after : State) : Type 0 where
     pub sittings : List Sitting
     pub are : AreSittings fs ns sittings
     pub so_far : SoFar gives k sittings whose clock clock' keeper keeper' s after
@@ -181,12 +183,12 @@ module _ {R W : Type 0} (remaining : R → Option (List ℕ)) (contents : W → 
   same_waits : (old new : Seat R W) → new.waited ≡ old.waited → waits_of new ≡ waits_of old
   same_waits old new is = rw is refl
 
-  module _ {C K : Type 0} {whose : List ℕ} (gives : C → ℕ → C → Type 0) (k : Ghosts K) (fs ns : List (Seat R W)) (clock clock' clock'' : C) (keeper keeper' keeper'' : K) (s mid after : State)
+  module _ {C K : Type 0} {whose : List GivenTurn} (gives : C → ℕ → C → Type 0) (k : Ghosts K) (fs ns : List (Seat R W)) (clock clock' clock'' : C) (keeper keeper' keeper'' : K) (s mid after : State)
       (p : ℕ) (d new : Seat R W) (lt : p < length ns) (open_there : (get_or ns p d).end ≡ None) where
-    pub turns_more : TakesTurn gives remaining contents (get_or ns p d) new clock' clock'' k keeper' keeper'' mid after
-        → TurnsMore gives k fs ns whose clock clock' keeper keeper' s mid → TurnsMore gives k fs (set ns p new) (whose ++ p ∷ []) clock clock'' keeper keeper'' s after
-    turns_more (had_ended e is same_seat same_clock same_keeper same_state) t = absurd (none_is e (sym open_there ∙ is))
-    turns_more (went_on was_open is_open served kept_waits goes) t =
+    pub turns_more : (most : Option ℕ) → TakesTurn gives remaining contents (get_or ns p d) new clock' clock'' k keeper' keeper'' mid after → ReadsInFull remaining most (get_or ns p d) new
+        → TurnsMore gives k fs ns whose clock clock' keeper keeper' s mid → TurnsMore gives k fs (set ns p new) (whose ++ record { whose = p; most = most } ∷ []) clock clock'' keeper keeper'' s after
+    turns_more most (had_ended e is same_seat same_clock same_keeper same_state) full t = absurd (none_is e (sym open_there ∙ is))
+    turns_more most (went_on was_open is_open served kept_waits goes) full t =
         let dx = sitting_of d d false None in
         let at = stands_there fs ns t.sittings p d dx lt t.are in
         let old = get_or ns p d in
@@ -196,10 +198,10 @@ module _ {R W : Type 0} (remaining : R → Option (List ℕ)) (contents : W → 
         record {
           sittings = set t.sittings p y;
           are = at.more new y (same_sitting at.first new (old.served + 1) (waits_of old) old.end x.gave_up x.lost served (same_waits old new kept_waits) (is_open ∙ sym was_open));
-          so_far = answered_more gives k t.sittings clock clock' keeper keeper' s mid t.so_far p dx z at.within at.is was_open
+          so_far = answered_more gives k t.sittings clock clock' keeper keeper' s mid t.so_far p dx z at.within at.is was_open most
               (left_of remaining new) (remaining new.reader.inner) (contents new.writer.inner) clock'' keeper'' after (subst (λ n. n ≤ most_messages) served new.few) goes;
         }
-    turns_more (read_on was_open is_open served waited keeps stood same_state) t =
+    turns_more most (read_on was_open is_open served waited keeps stood same_state) full t =
         let dx = sitting_of d d false None in
         let at = stands_there fs ns t.sittings p d dx lt t.are in
         let old = get_or ns p d in
@@ -207,15 +209,18 @@ module _ {R W : Type 0} (remaining : R → Option (List ℕ)) (contents : W → 
         let z = sitting_of at.first old x.gave_up x.lost in
         let y = reads_on z (left_of remaining new) (remaining new.reader.inner) in
         let unwritten : z.written ≡ contents new.writer.inner = ap (λ (w : Counted W). contents w.inner) (sym stood.written) in
+        let (bound, is_bound, needs) = more_needed remaining old new waited keeps most full in
+        let now : List GivenTurn = whose ++ record { whose = p; most = most } ∷ [] in
         record {
           sittings = set t.sittings p y;
           are = at.more new y (ap (λ (o : Option (List ℕ)). record y { written = o }) unwritten ∙ same_sitting at.first new old.served (waits_of old + 1) old.end x.gave_up x.lost served waited (is_open ∙ sym was_open));
-          so_far = subst (λ (c : C). SoFar gives k (set t.sittings p y) (whose ++ p ∷ []) clock c keeper keeper'' s after) (sym stood.told)
-              (subst (λ (a : State). SoFar gives k (set t.sittings p y) (whose ++ p ∷ []) clock clock' keeper keeper'' s a) (sym same_state)
+          so_far = subst (λ (c : C). SoFar gives k (set t.sittings p y) now clock c keeper keeper'' s after) (sym stood.told)
+              (subst (λ (a : State). SoFar gives k (set t.sittings p y) now clock clock' keeper keeper'' s a) (sym same_state)
+              (subst (λ (o : Option ℕ). SoFar gives k (set t.sittings p y) (whose ++ record { whose = p; most = o } ∷ []) clock clock' keeper keeper'' s mid) (sym is_bound)
               (read_on_more gives k t.sittings clock clock' keeper keeper' s mid t.so_far p dx z at.within at.is was_open
-              (left_of remaining new) (remaining new.reader.inner) keeper'' keeps stood.held stood.lasts));
+              (left_of remaining new) (remaining new.reader.inner) keeper'' bound needs keeps stood.held stood.lasts)));
         }
-    turns_more (ended n e was_open is served kept_waits sum serves once begun) t =
+    turns_more most (ended n e was_open is served kept_waits sum serves once begun) full t =
         let dx = sitting_of d d false None in
         let at = stands_there fs ns t.sittings p d dx lt t.are in
         let old = get_or ns p d in
@@ -225,7 +230,7 @@ module _ {R W : Type 0} (remaining : R → Option (List ℕ)) (contents : W → 
         record {
           sittings = set t.sittings p y;
           are = at.more new y (same_sitting at.first new old.served (waits_of old) (Some e) serves.gave_up (lost_of serves.session) served (same_waits old new kept_waits) is);
-          so_far = closed_more gives k t.sittings clock clock' keeper keeper' s mid t.so_far p dx z at.within at.is was_open
+          so_far = closed_more gives k t.sittings clock clock' keeper keeper' s mid t.so_far p dx z at.within at.is was_open most
               (left_of remaining new) (remaining new.reader.inner) (contents new.writer.inner) clock'' keeper'' after n e sum serves once begun;
         }
 
@@ -242,7 +247,7 @@ module _ {R W : Type 0} (remaining : R → Option (List ℕ)) (contents : W → 
       ∙ ap (λ (r : Counted R). record (sitting_of first new gave_up lost) { reader = remaining r.inner; served = old.served; waited = waits_of old; end = old.end }) (sym g.reader)
       ∙ same_sitting first new old.served (waits_of old) old.end gave_up lost g.served (same_waits old new g.waited) g.end
 
-  module _ {C K : Type 0} {whose : List ℕ} (gives : C → ℕ → C → Type 0) (k : Ghosts K) (fs ns : List (Seat R W)) (clock clock' : C) (keeper keeper' : K) (s mid : State) where
+  module _ {C K : Type 0} {whose : List GivenTurn} (gives : C → ℕ → C → Type 0) (k : Ghosts K) (fs ns : List (Seat R W)) (clock clock' : C) (keeper keeper' : K) (s mid : State) where
     pub gathered_seat : (p : ℕ) (d new : Seat R W) → p < length ns → (get_or ns p d).end ≡ None → Gathers remaining (get_or ns p d) new
         → TurnsMore gives k fs ns whose clock clock' keeper keeper' s mid → TurnsMore gives k fs (set ns p new) whose clock clock' keeper keeper' s mid
     gathered_seat p d new lt is_open g t =
@@ -316,6 +321,19 @@ module _ {R W : Type 0} (remaining : R → Option (List ℕ)) (contents : W → 
         are_threads fs ns xs cs a.1 b.1 t.1,
       )
 
+  -- ---- their turns that only read on
+
+  have_read_on : (turns : List Turn) (i : ℕ) (fs ns : List (Seat R W)) (xs : List Sitting) (cs : List Thread) → AreSittings fs ns xs → AllReadOn turns i xs cs → HaveReadOn remaining turns i fs cs
+  have_read_on turns i [] [] [] [] a h = tt
+  have_read_on turns i [] [] [] (c ∷ cs) a h = absurd h
+  have_read_on turns i [] [] (x ∷ xs) cs a h = absurd a
+  have_read_on turns i [] (n ∷ ns) xs cs a h = absurd a
+  have_read_on turns i (f ∷ fs) [] xs cs a h = absurd a
+  have_read_on turns i (f ∷ fs) (n ∷ ns) [] cs a h = absurd a
+  have_read_on turns i (f ∷ fs) (n ∷ ns) (x ∷ xs) [] a h = absurd h
+  have_read_on turns i (f ∷ fs) (n ∷ ns) (x ∷ xs) (c ∷ cs) a h =
+      (subst (λ (y : Sitting). ReadOn c.end y.input (own_turns i turns)) a.0 h.0, have_read_on turns (suc i) fs ns xs cs a.1 h.1)
+
   -- ---- how many turns the connections took
 
   same_took : (first now : Seat R W) (x : Sitting) → x ≡ sitting_of first now x.gave_up x.lost → took_of x ≡ turns_of now
@@ -339,24 +357,25 @@ module _ {R W : Type 0} (remaining : R → Option (List ℕ)) (contents : W → 
       omega (arith, sum_by-cons took_of x xs, sum_by-cons turns_of n ns, same_took f n x a.0, sums_alike fs ns xs a.1)
 
   -- The connections were served in turns in this order, and these are their threads.
-  pub record Weaves {C K : Type 0} (gives : C → ℕ → C → Type 0) (k : Ghosts K) (fs ns : List (Seat R W)) (whose : List ℕ) (clock clock' : C) (keeper keeper' : K) (s after : State) : Type 0 where
+  pub record Weaves {C K : Type 0} (gives : C → ℕ → C → Type 0) (k : Ghosts K) (fs ns : List (Seat R W)) (whose : List GivenTurn) (clock clock' : C) (keeper keeper' : K) (s after : State) : Type 0 where
     pub threads : List Thread
     pub moments : List ℕ
     pub told : TellsMoments gives clock moments clock'
     pub served : AreThreads remaining contents fs ns threads
     pub run : Interleaved s threads moments after
-    pub in_order : map (λ (t : Turn). t.which) run.turns ≡ whose
+    pub in_order : map turn_by run.turns ≡ whose
     pub all : length run.turns ≡ sum_by turns_of ns
     pub each_counted : HaveTurns run.turns 0 ns
     pub one_moment : AllByRecursion TellsOneMoment run.turns
     pub by_turns : SpeakInTurns run.turns 0 threads
+    pub read_on : HaveReadOn remaining run.turns 0 fs threads
     pub begun : GaveUpWithinMessages run.turns 0 threads
     pub repeats : RepeatsOnce (acts_in run.turns)
     pub stays : StaysSo k threads keeper keeper' after
     pub lasts : LastsOver k threads keeper keeper' s after
     pub survives : Survives k keeper keeper' (HaveGivenUp run.turns 0 threads) s after
 
-  module _ {C K : Type 0} {whose : List ℕ} (gives : C → ℕ → C → Type 0) (k : Ghosts K) (fs ns : List (Seat R W)) (clock clock' : C) (keeper keeper' : K) (s mid : State) where
+  module _ {C K : Type 0} {whose : List GivenTurn} (gives : C → ℕ → C → Type 0) (k : Ghosts K) (fs ns : List (Seat R W)) (clock clock' : C) (keeper keeper' : K) (s mid : State) where
     pub weaves_last : TurnsMore gives k fs ns whose clock clock' keeper keeper' s mid → AllTell fs ns → MeansOne k keeper' → IsLeft (k.means keeper') mid
         → Weaves gives k fs ns whose clock clock' keeper keeper' s mid
     weaves_last t tell one left =
@@ -372,6 +391,7 @@ module _ {R W : Type 0} (remaining : R → Option (List ℕ)) (contents : W → 
           each_counted = have_turns w.run.turns 0 fs ns t.sittings t.are w.counts.each;
           one_moment = w.counts.one_moment;
           by_turns = w.by_turns;
+          read_on = have_read_on w.run.turns 0 fs ns t.sittings w.threads t.are w.read_on;
           begun = w.begun;
           repeats = repeats_once s (acts_in w.run.turns) mid w.run.order;
           stays = record {

@@ -1,5 +1,6 @@
 -- One connection among others as it is now, and the effect of a turn on it.
 use Rattle.std.proofs.Common.{◌≡◌, ◌≤◌, ◌+◌, ℕ, suc, Bool, true, false, List, [], ◌∷◌, ◌++◌, map, Option, Some, None, refl, sym, ap, subst, ◌∙◌, append_assoc, arith}
+use Rattle.std.specs.Prelude.{IfSome}
 use Rattle.std.proofs.KnownBytes.{Appends-kept, Appends-nil, Appends-trans, Consumes-kept, Consumes-nil, Consumes-trans}
 use Rattle.std.specs.Io.KnownBytes.{Appends, Consumes, Keeps}
 use Rattle.std.proofs.lemmas.List.{append-nil}
@@ -9,7 +10,7 @@ use Rattle.wire.specs.Framing as frame
 use Rattle.boxes.specs.declared.keep.Keeper.{Ghosts}
 use Rattle.boxes.specs.State.{State}
 use Rattle.office.specs.Connections.{IsKnown, IsStream}
-use Rattle.office.specs.Interleaved.{AnswersNone, GaveUpWithin, HasGivenUp, IsBehind, Speaks, SpeaksInTurns, Turn, acts_in, moments_in}
+use Rattle.office.specs.Interleaved.{AnswersNone, GaveUpWithin, HasGivenUp, IsBehind, NeedsMore, ReadAll, ReadOn, Speaks, SpeaksInTurns, Turn, acts_in, moments_in}
 use Rattle.office.specs.Interleaved as said
 use Rattle.office.specs.Repeats.{Act, text_of}
 use Rattle.office.specs.Sessions.{HasBegunMessage, most_messages}
@@ -56,6 +57,7 @@ pub record Heard (x : Sitting) (turns : List Turn) : Type 0 where
   pub unlost : x.lost ≡ None
   pub tied : moments_in turns ≡ nows (acts_in turns)
   pub behind : (stream rest : List ℕ) (later : List Act) → IsBehind stream later rest → IsBehind (front ++ stream) (acts_in turns ++ later) rest
+  pub read_on : ReadAll x.input [] turns
   pub follows : (n m : ℕ) (stream : List ℕ) (later : List Turn) (out : List ℕ) (e : Option SessionEnd) (gave_up : Bool) → n + x.served ≡ m
       → SpeaksInTurns n stream later out e gave_up → SpeaksInTurns m (front ++ stream) (turns ++ later) (text ++ out) e gave_up
 
@@ -68,6 +70,7 @@ pub record Closed (x : Sitting) (e : SessionEnd) (turns : List Turn) : Type 0 wh
   pub speaks : SpeaksInTurns most_messages stream turns answers (Some e) x.gave_up
   pub lost : (r : Request) (now : ℕ) → IsLost x.lost r now → HasGivenUp stream x.gave_up (acts_in turns) (moments_in turns) r now
   pub begun : GaveUpWithin stream x.gave_up (acts_in turns)
+  pub read_on : ReadOn (Some e) x.input turns
 
 abbrev pub SitsSo : Option SessionEnd → Sitting → List Turn → Type 0
 SitsSo None x turns = Heard x turns
@@ -121,6 +124,23 @@ open_sits x turns is h = subst (λ e. SitsSo e x turns) is h
 pub sits_open : (x : Sitting) (turns : List Turn) → x.end ≡ None → Heard x turns → Sits x turns
 sits_open x turns is h = subst (λ e. SitsSo e x turns) (sym is) h
 
+-- ---- turns that only read on
+
+-- A turn that answers nothing read all the bytes that it might, and more were needed. acts: what was done before.
+abbrev NeedsThen : Option (List ℕ) → List Act → Turn → Type 0
+NeedsThen input acts t = t.acts ≡ [] → (most : ℕ) × (t.most ≡ Some most) × IfSome input (λ stream. (rest : List ℕ) × IsBehind stream acts rest × NeedsMore most rest)
+
+read_all_more : (input : Option (List ℕ)) (acts : List Act) (turns : List Turn) (t : Turn) → ReadAll input acts turns → NeedsThen input (acts ++ acts_in turns) t → ReadAll input acts (turns ++ t ∷ [])
+read_all_more input acts [] t all one = (subst (λ l. NeedsThen input l t) (append-nil acts) one, tt)
+read_all_more input acts (u ∷ turns) t all one =
+    (all.0, read_all_more input (acts ++ u.acts) turns t all.1 (subst (λ l. NeedsThen input l t) (sym (append_assoc acts u.acts (acts_in turns))) one))
+
+needs_behind : (most : ℕ) (acts : List Act) (input left : Option (List ℕ)) (front : List ℕ) → Consumes input left front → ((stream : List ℕ) → IsBehind (front ++ stream) acts stream)
+    → ((bytes : List ℕ) → left ≡ Some bytes → NeedsMore most bytes) → IfSome input (λ stream. (rest : List ℕ) × IsBehind stream acts rest × NeedsMore most rest)
+needs_behind most acts None left front taken behind needs = tt
+needs_behind most acts (Some s) None front taken behind needs = absurd taken
+needs_behind most acts (Some s) (Some l) front taken behind needs = (l, subst (λ z. IsBehind z acts l) (sym taken) (behind l), needs l refl)
+
 -- ---- a new connection
 
 -- none of its messages was served
@@ -144,6 +164,7 @@ first_sits x is = sits_open x [] is.open_still (record {
   unlost = is.unlost;
   tied = refl;
   behind = λ stream rest later h. h;
+  read_on = tt;
   follows = λ n m stream later out e gave_up sum sp. let same : n ≡ m = omega (arith, sum, is.none) in subst (λ k. SpeaksInTurns k stream later out e gave_up) same sp;
 })
 
@@ -163,6 +184,7 @@ sent_so x written turns None holds h = record {
   unlost = h.unlost;
   tied = h.tied;
   behind = h.behind;
+  read_on = h.read_on;
   follows = h.follows;
 }
 sent_so x written turns (Some e) holds h = record {
@@ -173,6 +195,7 @@ sent_so x written turns (Some e) holds h = record {
   speaks = h.speaks;
   lost = h.lost;
   begun = h.begun;
+  read_on = h.read_on;
 }
 
 pub sent_sits : (x : Sitting) (written : Option (List ℕ)) (turns : List Turn) → Keeps x.written written → Sits x turns → Sits (sent_on x written) turns
@@ -194,6 +217,7 @@ gathered_sits x left reader turns keeps h = record {
   unlost = h.unlost;
   tied = h.tied;
   behind = h.behind;
+  read_on = h.read_on;
   follows = h.follows;
 }
 
@@ -202,8 +226,9 @@ gathered_sits x left reader turns keeps h = record {
 abbrev pub reads_on : Sitting → Option (List ℕ) → Option (List ℕ) → Sitting
 reads_on x left reader = record x { left = left; reader = reader; waited = x.waited + 1 }
 
-pub read_on_sits : (x : Sitting) (left reader : Option (List ℕ)) (t : Turn) (turns : List Turn) → t.moments ≡ [] → t.acts ≡ [] → Keeps x.left left → Heard x turns → Heard (reads_on x left reader) (turns ++ t ∷ [])
-read_on_sits x left reader t turns told acted keeps h =
+pub read_on_sits : (x : Sitting) (left reader : Option (List ℕ)) (t : Turn) (turns : List Turn) (most : ℕ) → t.most ≡ Some most → ((bytes : List ℕ) → x.left ≡ Some bytes → NeedsMore most bytes)
+    → t.moments ≡ [] → t.acts ≡ [] → Keeps x.left left → Heard x turns → Heard (reads_on x left reader) (turns ++ t ∷ [])
+read_on_sits x left reader t turns most bound needs told acted keeps h =
     let same : acts_in (turns ++ t ∷ []) ≡ acts_in turns = acts_more turns t ∙ ap (λ (l : List Act). acts_in turns ++ l) acted ∙ append-nil (acts_in turns) in
     let none : moments_in (turns ++ t ∷ []) ≡ moments_in turns = moments_more turns t ∙ ap (λ (l : List ℕ). moments_in turns ++ l) told ∙ append-nil (moments_in turns) in
     record {
@@ -217,6 +242,9 @@ read_on_sits x left reader t turns told acted keeps h =
       tied = none ∙ h.tied ∙ ap nows (sym same);
       behind = λ stream rest later there.
           behind_by (h.front ++ stream) (h.front ++ stream) (acts_in turns ++ later) (acts_in (turns ++ t ∷ []) ++ later) rest refl (ap (λ (l : List Act). l ++ later) (sym same)) (h.behind stream rest later there);
+      read_on =
+          let behind : (stream : List ℕ) → IsBehind (h.front ++ stream) (acts_in turns) stream = λ stream. subst (λ l. IsBehind (h.front ++ stream) l stream) (append-nil (acts_in turns)) (h.behind stream stream [] refl) in
+          read_all_more x.input [] turns t h.read_on (λ none. (most, bound, needs_behind most (acts_in turns) x.input x.left h.front h.taken behind needs));
       follows = λ n m stream later out e gave_up is sp.
           let one = said.reads_on n stream t later out e gave_up told acted sp in
           speaks_by m (h.front ++ stream) (h.front ++ stream) (turns ++ (t ∷ later)) ((turns ++ t ∷ []) ++ later) (h.text ++ out) (h.text ++ out) e gave_up
@@ -252,6 +280,7 @@ module _ {C K : Type 0} {gives : C → ℕ → C → Type 0} {k : Ghosts K} (x :
         (sym (append_assoc h.front g.front stream))
         (sym (append_assoc (acts_in turns) (act_of g ∷ []) later) ∙ ap (λ (l : List Act). l ++ later) (ap (λ (l : List Act). acts_in turns ++ l) (sym acted) ∙ sym (acts_more turns t)))
         (h.behind (g.front ++ stream) rest (act_of g ∷ later) one);
+    read_on = read_all_more x.input [] turns t h.read_on (λ none. let one : act_of g ∷ [] ≡ [] = sym acted ∙ none in absurd cc);
     follows = λ n m stream later out e gave_up is sp.
         let a = act_of g in
         let one = said.goes_on n (g.front ++ stream) stream t a later out e gave_up told acted (g.message stream) sp in
@@ -297,6 +326,7 @@ closed_sits x left reader written e gave_up lost n stream answers t turns sum re
         told = moments_more turns t ∙ ap (λ (l : List ℕ). moments_in turns ++ l) g.told ∙ ap (λ (l : List ℕ). l ++ now ∷ []) (h.tied ∙ ap nows (sym (append-nil (acts_in turns)) ∙ same g.marked));
       };
   begun = λ is. (stream, there is, begun is);
+  read_on = (turns, t, refl, h.read_on);
 }
   where
     same : gave_up ≡ true → acts_in turns ++ [] ≡ acts_in (turns ++ t ∷ [])

@@ -9,11 +9,12 @@ use Rattle.boxes.specs.declared.keep.Keeper.{Ghosts}
 use Rattle.sigtext.specs.Counts.{Rose}
 use Rattle.sigtext.specs.Request.{Request}
 use Rattle.boxes.specs.State.{State}
+use Rattle.wire.specs.Crowds.{GivenTurn}
 use Rattle.wire.specs.Framing.{Next}
 use Rattle.wire.specs.Framing as frame
 use Rattle.office.specs.Connections.{Serves, TellsMoments}
 use Rattle.office.specs.Crashes.{LastsThrough, Survives, never_changed}
-use Rattle.office.specs.Interleaved.{AnswersNone, AreSpoken, AreTied, GaveUpWithin, GaveUpWithinMessages, HasGivenUp, HaveGivenUp, Interleaved, SpeakInTurns, Speaks, SpeaksInTurns, Thread, Turn, acts_in, moments_in, own_acts, own_moments, own_turns}
+use Rattle.office.specs.Interleaved.{AnswersNone, AreSpoken, AreTied, GaveUpWithin, GaveUpWithinMessages, HasGivenUp, HaveGivenUp, Interleaved, NeedsMore, ReadOn, SpeakInTurns, Speaks, SpeaksInTurns, Thread, Turn, acts_in, moments_in, own_acts, own_moments, own_turns}
 use Rattle.office.specs.Interleaved as said
 use Rattle.office.specs.Premise.{HoldsUp}
 use Rattle.office.specs.Repeats.{Act, Acts, text_of}
@@ -207,7 +208,7 @@ lost_in (session.write_failed_giving_up_at n stream rest s r now front next read
 }
 lost_in _ t told q at h = absurd h
 
-pub record SoFar {C K : Type 0} (gives : C → ℕ → C → Type 0) (k : Ghosts K) (sittings : List Sitting) (whose : List ℕ) (clock clock' : C) (keeper keeper' : K) (s mid : State) : Type 0 where
+pub record SoFar {C K : Type 0} (gives : C → ℕ → C → Type 0) (k : Ghosts K) (sittings : List Sitting) (whose : List GivenTurn) (clock clock' : C) (keeper keeper' : K) (s mid : State) : Type 0 where
   pub turns : List Turn
   pub order : Acts s (acts_in turns) mid
   pub told : TellsMoments gives clock (moments_in turns) clock'
@@ -239,12 +240,12 @@ last_turn n stream t acts moments out e gave_up told acted x none =
 
 module _ {C K : Type 0} (gives : C → ℕ → C → Type 0) (k : Ghosts K) where
   -- a turn of one of the connections
-  record Moves (x new : Sitting) (clock clock' : C) (keeper keeper' : K) (mid after : State) : Type 0 where
+  record Moves (most : Option ℕ) (x new : Sitting) (clock clock' : C) (keeper keeper' : K) (mid after : State) : Type 0 where
     pub acts : List Act
     pub moments : List ℕ
     pub told : TellsMoments gives clock moments clock'
     pub by_rules : Acts mid acts after
-    pub moves : (t : Turn) → t.moments ≡ moments → t.acts ≡ acts → (before : List Turn) → Sits x before → Sits new (before ++ t ∷ [])
+    pub moves : (t : Turn) → t.most ≡ most → t.moments ≡ moments → t.acts ≡ acts → (before : List Turn) → Sits x before → Sits new (before ++ t ∷ [])
     pub tied : AreTied moments acts
     pub one_moment : length moments ≤ 1
     pub took : took_of new ≡ took_of x + 1
@@ -259,18 +260,18 @@ module _ {C K : Type 0} (gives : C → ℕ → C → Type 0) (k : Ghosts K) wher
   holds_both : (a b c : K) → HoldsUp k false a b → HoldsUp k false b c → HoldsUp k false a c
   holds_both a b c x y = (y.0 ∙ x.0, λ was. y.1 (x.1 was))
 
-  moves_more : {whose : List ℕ} (xs : List Sitting) (p : ℕ) (d new : Sitting) (clock clock' clock'' : C) (keeper keeper' keeper'' : K) (s mid after : State) → p < length xs
-      → SoFar gives k xs whose clock clock' keeper keeper' s mid → Moves (get_or xs p d) new clock' clock'' keeper' keeper'' mid after
-      → SoFar gives k (set xs p new) (whose ++ p ∷ []) clock clock'' keeper keeper'' s after
-  moves_more xs p d new clock clock' clock'' keeper keeper' keeper'' s mid after lt f t =
-      let u : Turn = record { which = p; moments = t.moments; acts = t.acts } in
+  moves_more : {whose : List GivenTurn} (most : Option ℕ) (xs : List Sitting) (p : ℕ) (d new : Sitting) (clock clock' clock'' : C) (keeper keeper' keeper'' : K) (s mid after : State) → p < length xs
+      → SoFar gives k xs whose clock clock' keeper keeper' s mid → Moves most (get_or xs p d) new clock' clock'' keeper' keeper'' mid after
+      → SoFar gives k (set xs p new) (whose ++ record { whose = p; most = most } ∷ []) clock clock'' keeper keeper'' s after
+  moves_more most xs p d new clock clock' clock'' keeper keeper' keeper'' s mid after lt f t =
+      let u : Turn = record { which = p; most = most; moments = t.moments; acts = t.acts } in
       record {
         turns = f.turns ++ u ∷ [];
         order = subst (λ x. Acts s x after) (sym (acts_more f.turns u)) (acts_joined s mid after (acts_in f.turns) t.acts f.order t.by_rules);
         told = subst (λ x. TellsMoments gives clock x clock'') (sym (moments_more f.turns u)) (told_more gives clock clock' clock'' (moments_in f.turns) t.moments f.told t.told);
         tied = tied_more f.turns u f.tied t.tied;
         within = same_length (length xs) (length (set xs p new)) (f.turns ++ u ∷ []) (set_length xs p new) (within_more (length xs) f.turns u f.within lt);
-        sit = one_turns f.turns u 0 p d new xs (omega arith) lt (t.moves u refl refl) f.sit;
+        sit = one_turns f.turns u 0 p d new xs (omega arith) lt (t.moves u refl refl refl) f.sit;
         counts = counts_turn f.turns xs u d new lt t.one_moment t.took f.counts;
         never_less = omega (arith, f.never_less, t.never_less);
         rose = all_set (RoseAt (k.faults keeper) (k.faults keeper')) (RoseAt (k.faults keeper) (k.faults keeper'')) (λ x r is at_end. rose_before (k.faults keeper) (k.faults keeper') (k.faults keeper'') (r is at_end) t.never_less)
@@ -297,7 +298,7 @@ module _ {C K : Type 0} (gives : C → ℕ → C → Type 0) (k : Ghosts K) wher
     survives = survives_same still;
   }
 
-  module _ {whose : List ℕ} (xs : List Sitting) (clock clock' : C) (keeper keeper' : K) (s mid : State) (f : SoFar gives k xs whose clock clock' keeper keeper' s mid) where
+  module _ {whose : List GivenTurn} (xs : List Sitting) (clock clock' : C) (keeper keeper' : K) (s mid : State) (f : SoFar gives k xs whose clock clock' keeper keeper' s mid) where
     -- ---- one connection has a turn
 
     module _ (p : ℕ) (d x : Sitting) (lt : p < length xs) (at : get_or xs p d ≡ x) (is_open : x.end ≡ None) where
@@ -308,11 +309,11 @@ module _ {C K : Type 0} (gives : C → ℕ → C → Type 0) (k : Ghosts K) wher
       unmarked = subst (λ (y : Sitting). y.gave_up ≡ false) at (heard_at f.turns 0 p d xs lt (subst (λ (y : Sitting). y.end ≡ None) (sym at) is_open) f.sit)
 
       -- it reads on in its next message
-      pub read_on_more : (left reader : Option (List ℕ)) (keeper'' : K) → Keeps x.left left → HoldsUp k false keeper' keeper'' → LastsThrough k keeper' keeper'' mid mid
-          → SoFar gives k (set xs p (reads_on x left reader)) (whose ++ p ∷ []) clock clock' keeper keeper'' s mid
-      read_on_more left reader keeper'' keeps held lasts =
-          moves_more xs p d (reads_on x left reader) clock clock' clock' keeper keeper' keeper'' s mid mid lt f
-          (subst (λ (y : Sitting). Moves y (reads_on x left reader) clock' clock' keeper' keeper'' mid mid) (sym at) (record {
+      pub read_on_more : (left reader : Option (List ℕ)) (keeper'' : K) (most : ℕ) → ((bytes : List ℕ) → x.left ≡ Some bytes → NeedsMore most bytes) → Keeps x.left left → HoldsUp k false keeper' keeper'' → LastsThrough k keeper' keeper'' mid mid
+          → SoFar gives k (set xs p (reads_on x left reader)) (whose ++ record { whose = p; most = Some most } ∷ []) clock clock' keeper keeper'' s mid
+      read_on_more left reader keeper'' most needs keeps held lasts =
+          moves_more (Some most) xs p d (reads_on x left reader) clock clock' clock' keeper keeper' keeper'' s mid mid lt f
+          (subst (λ (y : Sitting). Moves (Some most) y (reads_on x left reader) clock' clock' keeper' keeper'' mid mid) (sym at) (record {
             acts = [];
             moments = [];
             told = refl;
@@ -320,8 +321,8 @@ module _ {C K : Type 0} (gives : C → ℕ → C → Type 0) (k : Ghosts K) wher
             one_moment = omega arith;
             took = omega arith;
             by_rules = refl;
-            moves = λ t told acted before h. sits_open (reads_on x left reader) (before ++ t ∷ []) is_open
-                (read_on_sits x left reader t before told acted keeps (open_sits x before is_open h));
+            moves = λ t bound told acted before h. sits_open (reads_on x left reader) (before ++ t ∷ []) is_open
+                (read_on_sits x left reader t before most bound needs told acted keeps (open_sits x before is_open h));
             marked = unmarked;
             kept = λ r now h. h;
             never_less = held_least k false keeper' keeper'' held;
@@ -332,13 +333,13 @@ module _ {C K : Type 0} (gives : C → ℕ → C → Type 0) (k : Ghosts K) wher
           }))
 
       -- its next message is answered
-      pub answered_more : (left reader written : Option (List ℕ)) (clock'' : C) (keeper'' : K) (after : State) → x.served + 1 ≤ most_messages
+      pub answered_more : (most : Option ℕ) (left reader written : Option (List ℕ)) (clock'' : C) (keeper'' : K) (after : State) → x.served + 1 ≤ most_messages
           → Goes gives x.left left x.written written clock' clock'' k keeper' keeper'' mid after
-          → SoFar gives k (set xs p (answered x left reader written)) (whose ++ p ∷ []) clock clock'' keeper keeper'' s after
+          → SoFar gives k (set xs p (answered x left reader written)) (whose ++ record { whose = p; most = most } ∷ []) clock clock'' keeper keeper'' s after
       unfolding act_of
-      answered_more left reader written clock'' keeper'' after few g =
-          moves_more xs p d (answered x left reader written) clock clock' clock'' keeper keeper' keeper'' s mid after lt f
-          (subst (λ (y : Sitting). Moves y (answered x left reader written) clock' clock'' keeper' keeper'' mid after) (sym at) (record {
+      answered_more most left reader written clock'' keeper'' after few g =
+          moves_more most xs p d (answered x left reader written) clock clock' clock'' keeper keeper' keeper'' s mid after lt f
+          (subst (λ (y : Sitting). Moves most y (answered x left reader written) clock' clock'' keeper' keeper'' mid after) (sym at) (record {
             acts = act_of x left reader written clock' clock'' keeper' keeper'' mid after g ∷ [];
             moments = g.moment ∷ [];
             told = (clock'', g.told, refl);
@@ -346,7 +347,7 @@ module _ {C K : Type 0} (gives : C → ℕ → C → Type 0) (k : Ghosts K) wher
             one_moment = omega arith;
             took = omega arith;
             by_rules = (refl, g.answers.replies, refl);
-            moves = λ t told acted before h. sits_open (answered x left reader written) (before ++ t ∷ []) is_open
+            moves = λ t bound told acted before h. sits_open (answered x left reader written) (before ++ t ∷ []) is_open
                 (answered_sits x left reader written clock' clock'' keeper' keeper'' mid after g t told acted before few (open_sits x before is_open h));
             marked = unmarked;
             kept = λ r now h. h;
@@ -358,16 +359,16 @@ module _ {C K : Type 0} (gives : C → ℕ → C → Type 0) (k : Ghosts K) wher
           }))
 
       -- the connection ends
-      pub closed_more : (left reader written : Option (List ℕ)) (clock'' : C) (keeper'' : K) (after : State) (n : ℕ) (e : SessionEnd) → n + x.served ≡ most_messages
+      pub closed_more : (most : Option ℕ) (left reader written : Option (List ℕ)) (clock'' : C) (keeper'' : K) (after : State) (n : ℕ) (e : SessionEnd) → n + x.served ≡ most_messages
           → (v : Serves n gives x.left reader x.written written clock' clock'' k keeper' keeper'' mid after e) → EndsAtOnce v.session → (v.gave_up ≡ true → HasBegunMessage v.stream)
-          → SoFar gives k (set xs p (closed x left reader written e v.gave_up (lost_of v.session))) (whose ++ p ∷ []) clock clock'' keeper keeper'' s after
-      closed_more left reader written clock'' keeper'' after n e sum v once begun =
+          → SoFar gives k (set xs p (closed x left reader written e v.gave_up (lost_of v.session))) (whose ++ record { whose = p; most = most } ∷ []) clock clock'' keeper keeper'' s after
+      closed_more most left reader written clock'' keeper'' after n e sum v once begun =
           let y = last_acts n v.stream mid v.moments v.answers e v.gave_up after v.session once in
           let speaks = speaks_of n v.stream mid v.moments v.answers e v.gave_up y.acts after y.are in
           let none = none_whole n v.stream mid v.moments v.answers e v.gave_up y.acts after y.are y.none in
           let new = closed x left reader written e v.gave_up (lost_of v.session) in
-          moves_more xs p d new clock clock' clock'' keeper keeper' keeper'' s mid after lt f
-          (subst (λ (z : Sitting). Moves z new clock' clock'' keeper' keeper'' mid after) (sym at) (record {
+          moves_more most xs p d new clock clock' clock'' keeper keeper' keeper'' s mid after lt f
+          (subst (λ (z : Sitting). Moves most z new clock' clock'' keeper' keeper'' mid after) (sym at) (record {
             acts = y.acts;
             moments = v.moments;
             told = v.told;
@@ -375,7 +376,7 @@ module _ {C K : Type 0} (gives : C → ℕ → C → Type 0) (k : Ghosts K) wher
             one_moment = few_moments v.session once;
             took = let before : over_if x.end ≡ 0 = ap over_if is_open in omega (arith, before);
             by_rules = y.by_rules;
-            moves = λ t told acted before h.
+            moves = λ t bound told acted before h.
                 let last = last_turn n v.stream t y.acts v.moments v.answers e v.gave_up told acted speaks none in
                 closed_sits x left reader written e v.gave_up (lost_of v.session) n v.stream v.answers t before sum v.read v.written last.0 last.1 (lost_in v.session t told)
                 (λ given. acted ∙ none_acted n v.stream mid v.moments v.answers e v.gave_up after v.session once given) begun (open_sits x before is_open h);
@@ -525,6 +526,7 @@ record HasThread (x : Sitting) (own : List Turn) : Type 0 where
   pub speaks : SpeaksInTurns most_messages thread.stream own thread.answers thread.end thread.gave_up
   pub lost : (r : Request) (now : ℕ) → IsLost x.lost r now → HasGivenUp thread.stream thread.gave_up (acts_in own) (moments_in own) r now
   pub begun : GaveUpWithin thread.stream thread.gave_up (acts_in own)
+  pub read_on : ReadOn thread.end x.input own
 
 speaks_marked : (n : ℕ) (stream : List ℕ) (own : List Turn) (out : List ℕ) (e e' : Option SessionEnd) (g g' : Bool) → e ≡ e' → g ≡ g' → SpeaksInTurns n stream own out e g → SpeaksInTurns n stream own out e' g'
 speaks_marked n stream own out e e' g g' ee eg h = subst (λ z. SpeaksInTurns n stream own out z g') ee (subst (SpeaksInTurns n stream own out e) eg h)
@@ -546,6 +548,7 @@ thread_at x own None is h =
           (subst (λ z. SpeaksInTurns most_messages (h.front ++ []) (own ++ []) z None false) (append-nil h.text) all)));
       lost = λ r now is_lost. absurd (subst (λ (o : Option Lost). IsLost o r now) h.unlost is_lost);
       begun = λ given. let marked = h.marked in absurd (cc (marked, given));
+      read_on = subst (λ e. ReadOn e x.input own) (sym is) h.read_on;
     }
 thread_at x own (Some e) is h = record {
   thread = record { stream = h.stream; answers = h.answers; end = x.end; gave_up = x.gave_up };
@@ -558,6 +561,7 @@ thread_at x own (Some e) is h = record {
   speaks = speaks_marked most_messages h.stream own h.answers (Some e) x.end x.gave_up x.gave_up (sym is) refl h.speaks;
   lost = h.lost;
   begun = h.begun;
+  read_on = subst (λ o. ReadOn o x.input own) (sym is) h.read_on;
 }
 
 -- the same over all turns
@@ -567,6 +571,12 @@ own_lost i turns c r now h =
     let same = own_are i turns in
     subst (λ l. HasGivenUp c.stream c.gave_up l (own_moments i turns) r now) same.0 (subst (λ l. HasGivenUp c.stream c.gave_up (acts_in (own_turns i turns)) l r now) same.1 h)
 
+-- the turns of each connection, from number i on, that only read on
+abbrev pub AllReadOn : List Turn → ℕ → List Sitting → List Thread → Type 0
+AllReadOn turns i [] [] = ⊤
+AllReadOn turns i (x ∷ xs) (c ∷ cs) = ReadOn c.end x.input (own_turns i turns) × AllReadOn turns (suc i) xs cs
+AllReadOn turns i xs cs = ⊥
+
 record HasThreads (turns : List Turn) (i : ℕ) (xs : List Sitting) : Type 0 where
   pub threads : List Thread
   pub are : AreThreadsOf xs threads
@@ -574,10 +584,11 @@ record HasThreads (turns : List Turn) (i : ℕ) (xs : List Sitting) : Type 0 whe
   pub spoken : AreSpoken turns i threads
   pub lost : (r : Request) (now : ℕ) → AreLost xs r now → HaveGivenUp turns i threads r now
   pub begun : GaveUpWithinMessages turns i threads
+  pub read_on : AllReadOn turns i xs threads
   pub many : length threads ≡ length xs
 
 all_threads : (turns : List Turn) (i : ℕ) (xs : List Sitting) → AllSit turns i xs → HasThreads turns i xs
-all_threads turns i [] h = record { threads = []; are = tt; by_turns = tt; spoken = tt; lost = λ r now none. none; begun = tt; many = refl }
+all_threads turns i [] h = record { threads = []; are = tt; by_turns = tt; spoken = tt; lost = λ r now none. none; begun = tt; read_on = tt; many = refl }
 all_threads turns i (x ∷ xs) h =
     let c = thread_at x (own_turns i turns) x.end refl h.0 in
     let cs = all_threads turns (suc i) xs h.1 in
@@ -590,6 +601,7 @@ all_threads turns i (x ∷ xs) h =
           either (IsLost x.lost r now) (AreLost xs r now) (HasGivenUp c.thread.stream c.thread.gave_up (own_acts i turns) (own_moments i turns) r now) (HaveGivenUp turns (suc i) cs.threads r now)
           (λ is. own_lost i turns c.thread r now (c.lost r now is)) (cs.lost r now);
       begun = (subst (GaveUpWithin c.thread.stream c.thread.gave_up) (own_are i turns).0 c.begun, cs.begun);
+      read_on = (c.read_on, cs.read_on);
       many = ap suc cs.many;
     }
   where
@@ -598,7 +610,7 @@ all_threads turns i (x ∷ xs) h =
     either A B C D f g (inr b) = inr (g b)
 
 -- The connections were served in turns, by one order of all their messages.
-pub record Woven {C : Type 0} (gives : C → ℕ → C → Type 0) (xs : List Sitting) (whose : List ℕ) (clock clock' : C) (s mid : State) : Type 0 where
+pub record Woven {C : Type 0} (gives : C → ℕ → C → Type 0) (xs : List Sitting) (whose : List GivenTurn) (clock clock' : C) (s mid : State) : Type 0 where
   pub threads : List Thread
   pub moments : List ℕ
   pub are : AreThreadsOf xs threads
@@ -609,8 +621,9 @@ pub record Woven {C : Type 0} (gives : C → ℕ → C → Type 0) (xs : List Si
   pub counts : Counts run.turns xs whose
   pub lost : (r : Request) (now : ℕ) → AreLost xs r now → HaveGivenUp run.turns 0 threads r now
   pub begun : GaveUpWithinMessages run.turns 0 threads
+  pub read_on : AllReadOn run.turns 0 xs threads
 
-pub finishes : {C K : Type 0} {whose : List ℕ} (gives : C → ℕ → C → Type 0) (k : Ghosts K) (xs : List Sitting) (clock clock' : C) (keeper keeper' : K) (s mid : State)
+pub finishes : {C K : Type 0} {whose : List GivenTurn} (gives : C → ℕ → C → Type 0) (k : Ghosts K) (xs : List Sitting) (clock clock' : C) (keeper keeper' : K) (s mid : State)
     → SoFar gives k xs whose clock clock' keeper keeper' s mid → Woven gives xs whose clock clock' s mid
 finishes gives k xs clock clock' keeper keeper' s mid f =
     let x = all_threads f.turns 0 xs f.sit in
@@ -625,6 +638,7 @@ finishes gives k xs clock clock' keeper keeper' s mid f =
       counts = f.counts;
       lost = x.lost;
       begun = x.begun;
+      read_on = x.read_on;
     }
 
 -- ---- properties of all threads are properties of all connections

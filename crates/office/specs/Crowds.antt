@@ -3,15 +3,15 @@ use Rattle.std.specs.Prelude.{◌≡◌, ◌+◌, ℕ, Bool, false, List, ◌++�
 use Rattle.std.specs.List.{AllByRecursion, count_by, sum_by}
 use Rattle.boxes.specs.State.{State}
 use Rattle.boxes.specs.declared.keep.Keeper.{Ghosts}
-use Rattle.wire.specs.Crowds.{standing_in}
+use Rattle.wire.specs.Crowds.{GivenTurn, standing_in}
 use Rattle.wire.specs.Ends.{is_fault}
 use Rattle.wire.specs.declared.seat.Seat.{Seat}
 use Rattle.wire.specs.declared.session.SessionEnd.{SessionEnd}
 use Rattle.office.specs.Connections.{TellsMoments}
 use Rattle.office.specs.Crashes.{Survives}
-use Rattle.office.specs.Interleaved.{GaveUpWithinMessages, HaveGivenUp, Interleaved, SpeakInTurns, Thread, acts_in}
+use Rattle.office.specs.Interleaved.{GaveUpWithinMessages, HaveGivenUp, Interleaved, SpeakInTurns, Thread, acts_in, given_by}
 use Rattle.office.specs.Repeats.{RepeatsOnce}
-use Rattle.office.specs.Seats.{AreThreads, HaveTurns, LastsOver, StaysSo, TakesTurn, TellsOneMoment, TellsTurn, turns_of}
+use Rattle.office.specs.Seats.{AreThreads, HaveReadOn, HaveTurns, LastsOver, ReadsInFull, StaysSo, TakesTurn, TellsOneMoment, TellsTurn, turns_of}
 
 -- the connection ended by a failed read or write
 abbrev pub is_fault_end : Option SessionEnd → Bool
@@ -23,20 +23,21 @@ abbrev pub fails_now : Option SessionEnd → Option SessionEnd → Bool
 fails_now None new = is_fault_end new
 fails_now (Some e) new = false
 
--- What a turn makes of a slot, and whether its connection ended by a fault in the turn.
-pub data TurnsSlot {C K R W : Type 0} (gives : C → ℕ → C → Type 0) (remaining : R → Option (List ℕ)) (contents : W → Option (List ℕ)) (clock clock' : C) (k : Ghosts K) (keeper keeper' : K)
+-- What a turn makes of a slot, and whether its connection ended by a fault in the turn. most: how many bytes may be
+-- read in it.
+pub data TurnsSlot {C K R W : Type 0} (gives : C → ℕ → C → Type 0) (remaining : R → Option (List ℕ)) (contents : W → Option (List ℕ)) (most : Option ℕ) (clock clock' : C) (k : Ghosts K) (keeper keeper' : K)
     (s after : State) : Option (Seat R W) → Option (Seat R W) → Bool → Type 0 where
   -- the slot is free, and nothing was done
-  nobody : clock' ≡ clock → keeper' ≡ keeper → after ≡ s → TurnsSlot gives remaining contents clock clock' k keeper keeper' s after None None false
-  taken : (old new : Seat R W) → TakesTurn gives remaining contents old new clock clock' k keeper keeper' s after → TellsTurn old new
-      → TurnsSlot gives remaining contents clock clock' k keeper keeper' s after (Some old) (Some new) (fails_now old.end new.end)
+  nobody : clock' ≡ clock → keeper' ≡ keeper → after ≡ s → TurnsSlot gives remaining contents most clock clock' k keeper keeper' s after None None false
+  taken : (old new : Seat R W) → TakesTurn gives remaining contents old new clock clock' k keeper keeper' s after → TellsTurn old new → ReadsInFull remaining most old new
+      → TurnsSlot gives remaining contents most clock clock' k keeper keeper' s after (Some old) (Some new) (fails_now old.end new.end)
 
 -- These connections came and were served in turns. Some of them went, as they were then, and the others stand
 -- in the slots. The record gives the turns, the moments, each connection, the state after, how the keeper
 -- held up, what survives a crash, and how many ended by a fault. An upload acts once over all of them. first:
--- the count of connections before these; given: for each turn, in order, the number of its connection.
+-- the count of connections before these; given: the turns that the crowd gave, in order.
 pub record ServesCrowd {C K R W : Type 0} (gives : C → ℕ → C → Type 0) (remaining : R → Option (List ℕ)) (contents : W → Option (List ℕ)) (came gone : List (Seat R W)) (slots : List (Option (Seat R W)))
-    (clock clock' : C) (k : Ghosts K) (keeper keeper' : K) (first : ℕ) (given : List ℕ) (faults : ℕ) (s after : State) : Type 0 where
+    (clock clock' : C) (k : Ghosts K) (keeper keeper' : K) (first : ℕ) (given : List GivenTurn) (faults : ℕ) (s after : State) : Type 0 where
   -- each connection that came, as it was last
   pub seats : List (Seat R W)
   -- the connections that came are exactly those that went and those that stand in the slots
@@ -48,14 +49,16 @@ pub record ServesCrowd {C K R W : Type 0} (gives : C → ℕ → C → Type 0) (
   pub told : TellsMoments gives clock moments clock'
   pub served : AreThreads remaining contents came seats threads
   pub run : Interleaved s threads moments after
-  -- The turns of the order are those of the crowd. Each connection has as many as it took. Each turn tells at
-  -- most one moment.
-  pub whose : map (λ t. first + t.which) run.turns ≡ given
+  -- The turns of the order are those that the crowd gave. Each connection has as many as it took. Each turn tells
+  -- at most one moment.
+  pub whose : map (given_by first) run.turns ≡ given
   pub each_counted : HaveTurns run.turns 0 seats
   pub one_moment : AllByRecursion TellsOneMoment run.turns
   -- Each turn of a connection answers exactly one message in full, or only reads on and tells no moment, except
   -- the turn in which it ends. That one is its last and answers none in full.
   pub by_turns : SpeakInTurns run.turns 0 threads
+  -- A turn that only reads on read as many bytes as the crowd let it, and those that came are no whole message.
+  pub read_on : HaveReadOn remaining run.turns 0 came threads
   -- A connection gave up only within a message that had begun: never before bytes of it were read.
   pub begun : GaveUpWithinMessages run.turns 0 threads
   pub repeats : RepeatsOnce (acts_in run.turns)

@@ -1,9 +1,11 @@
 -- Connections that are open at once. Each turn serves messages of one of them.
-use Rattle.std.specs.Prelude.{◌≡◌, ◌<◌, ◌⊎◌, ℕ, suc, Bool, true, false, cond, nat_eq, List, [], ◌∷◌, ◌++◌, length, map, Option, Some, None, ⊤}
+use Rattle.std.specs.Prelude.{◌≡◌, ◌<◌, ◌≤◌, ◌+◌, ◌⊎◌, ℕ, suc, Bool, true, false, cond, nat_eq, List, [], ◌∷◌, ◌++◌, length, map, Option, Some, None, IfSome, ⊤}
 use Rattle.std.specs.List.{AllByRecursion, count_by, filter}
 use Rattle.sigtext.specs.Bytes.{IsBeginning}
 use Rattle.sigtext.specs.Request.{Request}
 use Rattle.boxes.specs.State.{State}
+use Rattle.wire.specs.Crowds.{GivenTurn}
+use Rattle.wire.specs.Feeding.{Awaits}
 use Rattle.wire.specs.Framing.{Next}
 use Rattle.wire.specs.Framing as frame
 use Rattle.sigtext.specs.Readable.{IsReadable}
@@ -13,11 +15,17 @@ use Rattle.office.specs.WithoutTryAgain.{IsLastRefusal}
 use Rattle.wire.specs.declared.session.SessionEnd.{SessionEnd}
 use Rattle.wire.specs.declared.session.SessionEnd.TheVariants.{WriteFault}
 
--- one turn: its connection, the moments that were told in it, and the acts for its messages
+-- one turn: its connection, how many bytes might be read in it, the moments that were told in it, and the acts for its
+-- messages
 pub record Turn : Type 0 where
   pub which : ℕ
+  pub most : Option ℕ
   pub moments : List ℕ
   pub acts : List Act
+
+-- the same turn as it was given; first: the count of connections before these
+abbrev pub given_by : ℕ → Turn → GivenTurn
+given_by first t = record { whose = first + t.which; most = t.most }
 
 -- all acts and all moments, in the order of the turns
 abbrev pub acts_in : List Turn → List Act
@@ -115,6 +123,27 @@ AreSpoken turns i (c ∷ cs) =
 abbrev pub IsBehind : List ℕ → List Act → List ℕ → Type 0
 IsBehind stream [] rest = rest ≡ stream
 IsBehind stream (a ∷ acts) rest = (more : List ℕ) × Next stream (frame.Message a.request) more × IsBehind more acts rest
+
+-- At least so many bytes of the next message had come, and they are no whole message. rest: the stream from that
+-- message on.
+pub record NeedsMore (most : ℕ) (rest : List ℕ) : Type 0 where
+  pub came : List ℕ
+  pub begins : IsBeginning came rest
+  pub enough : most ≤ length came
+  pub awaits : ∥ Awaits came ∥₁
+
+-- Each of these turns that answers nothing read all the bytes that it might, and more were needed. input: all that
+-- the connection sent, if it is known; acts: what was done for the connection before these turns.
+abbrev pub ReadAll : Option (List ℕ) → List Act → List Turn → Type 0
+ReadAll input acts [] = ⊤
+ReadAll input acts (t ∷ turns) =
+    (t.acts ≡ [] → (most : ℕ) × (t.most ≡ Some most) × IfSome input (λ stream. (rest : List ℕ) × IsBehind stream acts rest × NeedsMore most rest))
+    × ReadAll input (acts ++ t.acts) turns
+
+-- The turns of a connection that only read on did so. The last turn of a connection that ended is none of them.
+abbrev pub ReadOn : Option SessionEnd → Option (List ℕ) → List Turn → Type 0
+ReadOn None input turns = ReadAll input [] turns
+ReadOn (Some e) input turns = (before : List Turn) × (last : Turn) × (turns ≡ before ++ last ∷ []) × ReadAll input [] before
 
 -- A connection gave up this request at this moment: its message was the first behind those of the acts, and its
 -- moment was told after theirs. stream, gave_up, acts and moments are those of the connection.

@@ -1,17 +1,19 @@
 -- Connections that are served in turns, before and after.
-use Rattle.std.specs.Prelude.{◌≡◌, ◌≤◌, ◌+◌, ◌⊎◌, ℕ, suc, Bool, true, false, cond, is_some, List, [], ◌∷◌, length, Option, Some, None, ⊤}
+use Rattle.std.specs.Prelude.{◌≡◌, ◌≢◌, ◌≤◌, ◌+◌, ◌⊎◌, ℕ, suc, Bool, true, false, cond, is_some, List, [], ◌∷◌, length, Option, Some, None, ⊤}
 use Rattle.std.specs.Io.KnownBytes.{Appends, Consumes, Keeps}
 use Rattle.std.specs.List.{AllByRecursion}
 use Rattle.sigtext.specs.Counts.{Rose}
 use Rattle.boxes.specs.State.{State}
 use Rattle.boxes.specs.declared.keep.Keeper.{Ghosts}
-use Rattle.wire.specs.Seats.{left_of}
+use Rattle.wire.specs.Feeding.{Awaits}
+use Rattle.wire.specs.Seats.{came_of, left_of}
+use Rattle.wire.specs.Waiting.{TakesAll}
 use Rattle.wire.specs.declared.seat.Seat.{Seat}
 use Rattle.wire.specs.declared.session.SessionEnd.{SessionEnd}
 use Rattle.wire.specs.declared.session.SessionEnd.TheVariants.{ReadFault}
 use Rattle.office.specs.Connections.{IsStream, Serves}
 use Rattle.office.specs.Crashes.{LastsThrough}
-use Rattle.office.specs.Interleaved.{Thread, Turn, turns_by}
+use Rattle.office.specs.Interleaved.{ReadOn, Thread, Turn, own_turns, turns_by}
 use Rattle.office.specs.Sessions.{EndsAtOnce, HasBegunMessage, most_messages}
 use Rattle.office.specs.Stepping.{Goes, StandsBy, TellsStep}
 
@@ -85,6 +87,18 @@ turns_of seat = seat.served + waits_of seat + cond (is_some seat.end) 1 0
 abbrev pub HaveTurns : {R W : Type 0} → List Turn → ℕ → List (Seat R W) → Type 0
 HaveTurns turns i [] = ⊤
 HaveTurns turns i (seat ∷ seats) = (turns_by i turns ≡ turns_of seat) × HaveTurns turns (suc i) seats
+
+-- If the turn only read on, it read all the bytes that it might, and those that came of the message are no whole
+-- message. most: how many it might read, without end if there is no number.
+pub record ReadsInFull {R W : Type 0} (remaining : R → Option (List ℕ)) (most : Option ℕ) (old new : Seat R W) : Type 0 where
+  pub all : (new.waited ≢ old.waited) → TakesAll most (remaining old.reader.inner) (remaining new.reader.inner)
+  pub awaits : (new.waited ≢ old.waited) → ∥ Awaits (came_of new) ∥₁
+
+-- The turns that only read on, of each connection from number i on, as it came: they read all that they might.
+abbrev pub HaveReadOn : {R W : Type 0} → (R → Option (List ℕ)) → List Turn → ℕ → List (Seat R W) → List Thread → Type 0
+HaveReadOn remaining turns i [] [] = ⊤
+HaveReadOn remaining turns i (seat ∷ seats) (c ∷ cs) = ReadOn c.end (left_of remaining seat) (own_turns i turns) × HaveReadOn remaining turns (suc i) seats cs
+HaveReadOn remaining turns i seats cs = ⊥
 
 -- a turn tells at most one moment
 abbrev pub TellsOneMoment : Turn → Type 0

@@ -2,7 +2,7 @@
 use Rattle.std.specs.Prelude.{◌≡◌, ◌<◌, ◌+◌, ◌++◌, ◌∷◌, ◌⊎◌, ◌||◌, ℕ, Bool, List, [], is_some, None, Option, Some, length, true, false, IfSome}
 use Rattle.std.specs.List.{AllByRecursion}
 use Rattle.std.specs.declared.io.Error.{Error}
-use Rattle.wire.specs.Crowds.{slot_at}
+use Rattle.wire.specs.Crowds.{GivenTurn, slot_at}
 use Rattle.wire.specs.Feeds.{ahead_of}
 use Rattle.wire.specs.Gathering.{HasFailed, ahead_in}
 use Rattle.wire.specs.Outgoing.{NoneFailed, WriteFailed, waits_out}
@@ -92,8 +92,8 @@ pub data Admits {S E : Type 0} (are_ends : S → E → E → Type 0) (most : ℕ
   goes : (events : List (Event S E)) (waits : Option S) (came gone : List (Seat (Gathered E) (Outbox E))) (refused : ℕ) (seat : Seat (Gathered E) (Outbox E))
       → Admits are_ends most events waits came gone refused → MayGo seat → Admits are_ends most (events ++ closed seat ∷ []) waits came (gone ++ seat ∷ []) refused
 
--- Turns were given, each to one of the first `came` connections. With those that may still be given they are
--- 2^64 - 1. given: for each turn, in order, the number of its connection.
-pub record HasGiven (came turns : ℕ) (given : List ℕ) : Type 0 where
+-- These turns were given in this order, each to one of the first `came` connections. With those that may still be
+-- given they are 2^64 - 1.
+pub record HasGiven (came turns : ℕ) (given : List GivenTurn) : Type 0 where
   pub counted : length given + turns ≡ 18446744073709551615
-  pub theirs : AllByRecursion (λ n. n < came) given
+  pub theirs : AllByRecursion (λ turn. turn.whose < came) given

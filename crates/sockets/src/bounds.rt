@@ -8,8 +8,8 @@ use std::io::ErrorKind;
 use std::time;
 use std::time::{Duration, Instant};
 
-/// For how many milliseconds no byte of a body may come while another body waits for room.
-const SHORT_MILLIS: u64 = 1000;
+/// How many seconds the next bytes of a body may take while another body waits for room.
+const SHORT_SECONDS: u64 = 3;
 
 /// How many bytes of answers may wait in total before a connection is cut off.
 const MOST_WAITING: usize = 268_435_456;
@@ -46,20 +46,19 @@ impl<R: time::Clock, L: Listener> Book<'_, R, L> {
         Some(oldest?.index)
     }
 
-    /// The body with room of which nothing has come for the longest time, if that is too long while another waits
-    /// for room.
-    pub(crate) fn most_silent_body(&self) -> Option<usize> {
+    /// The body with room whose next bytes take longest, if that is too long while another waits for room.
+    pub(crate) fn slowest_body(&self) -> Option<usize> {
         let mut oldest: Option<Lasting> = None;
         'slots: for (index, peer) in self.peers.iter().enumerate() {
             if matches!(peer.phase, Phase::Body { .. }) && peer.has_room {
-                oldest = Some(older(oldest, index, peer.heard));
+                oldest = Some(older(oldest, index, peer.since));
             }
         }
-        let silent = oldest?;
-        if self.now.duration_since(silent.since) < Duration::from_millis(SHORT_MILLIS) {
+        let slowest = oldest?;
+        if self.now.duration_since(slowest.since) < Duration::from_secs(SHORT_SECONDS) {
             return None;
         }
-        Some(silent.index)
+        Some(slowest.index)
     }
 
     /// If more bytes of answers wait than allowed: the connection whose peer has accepted nothing for the

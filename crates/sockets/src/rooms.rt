@@ -45,6 +45,8 @@ pub(crate) struct Rooms {
     rest: usize,
     // How many bodies have begun.
     begun: u64,
+    // Whether one has ended since the last choice.
+    is_freed: bool,
     // The bodies that have not come whole: the one that began first, then those with the least to come.
     coming: Vec<Coming>,
 }
@@ -57,6 +59,7 @@ impl Rooms {
             held: 0,
             rest: 0,
             begun: 0,
+            is_freed: false,
             coming: Vec::with_capacity(alloc, connections)?,
         })
     }
@@ -78,8 +81,14 @@ impl Rooms {
         }
         if share.is_none() {
             peer.has_room = false;
+            self.is_freed |= !old.is_none();
         }
         peer.share = share;
+    }
+
+    /// Whether a body has ended since the last choice, so that others may go on.
+    pub(crate) fn is_freed(&self) -> bool {
+        self.is_freed
     }
 
     /// Whether not all bodies fit.
@@ -89,6 +98,7 @@ impl Rooms {
 
     /// Chooses the bodies that go on.
     pub(crate) fn choose(&mut self, peers: &mut [Peer]) {
+        self.is_freed = false;
         self.list(peers);
         let first = self.first_begun();
         self.coming

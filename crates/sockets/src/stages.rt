@@ -266,12 +266,12 @@ impl<R: time::Clock, L: Listener> Book<'_, R, L> {
         or_pass(self.make_room(slots))
     }
 
-    // While a body waits for room, one of which nothing comes gives up its own.
+    // While a body waits for room, one that is too slow gives up its own.
     fn make_room(&mut self, slots: &[Option<Held<L::End>>]) -> Option<Action> {
         if !self.rooms.is_short() {
             return None;
         }
-        let index = self.most_silent_body()?;
+        let index = self.slowest_body()?;
         self.give_up(slots, index, ErrorKind::TimedOut)
     }
 
@@ -296,7 +296,8 @@ impl<R: time::Clock, L: Listener> Book<'_, R, L> {
 
     // The timeout of the next poll.
     fn patience_of_wait(&self) -> Option<Duration> {
-        if !self.rounds.is_idle() || self.is_behind || self.may_accept() {
+        let has_room = self.is_waiting && self.rooms.is_freed();
+        if has_room || !self.rounds.is_idle() || self.is_behind || self.may_accept() {
             return Some(Duration::ZERO);
         }
         if self.taken > 0 || self.door.is_paused() {

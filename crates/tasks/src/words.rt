@@ -512,7 +512,7 @@ static SERVE: Form = Form {
         Argument {
             id: "room",
             value: "MB",
-            help: "How many megabytes of files may be kept while the rest of them comes: 1 to 1000000; a quarter of the memory if not given",
+            help: "How many megabytes of files may be kept while the rest of them comes: 1 to 1000000; a quarter of the memory, but at least 64, if not given",
             required: false,
             given: Given::Option(Value::Number(1, 1_000_000)),
         },

@@ -55,10 +55,16 @@ numbers_after (gathers now came gone p seat new before within at is_open gathere
 numbers_after (sends now came gone p seat new before within at sent) n numbers = numbers_after before n numbers
 numbers_after (goes now came gone p seat before within at) n numbers = numbers_after before n numbers
 
--- the connection whose turn is due, if any
-abbrev pub whose_turn : (ℕ → ℕ) → Option Due → List ℕ
-whose_turn numbers None = []
-whose_turn numbers (Some due) = numbers due.index ∷ []
+-- A turn that was given: the number of its connection, and how many bytes may be read in it, without end if there
+-- is no number.
+pub record GivenTurn : Type 0 where
+  pub whose : ℕ
+  pub most : Option ℕ
+
+-- the turn that is due, if any
+abbrev pub turn_given : (ℕ → ℕ) → Option Due → List GivenTurn
+turn_given numbers None = []
+turn_given numbers (Some due) = record { whose = numbers due.index; most = due.most } ∷ []
 
 -- each connection in the slots is one of the first n that came
 abbrev pub AreAmong : {X : Type 0} → (ℕ → ℕ) → ℕ → List (Option X) → Type 0
@@ -66,13 +72,13 @@ AreAmong {X} numbers n slots = (p : ℕ) (x : X) → slot_at slots p ≡ Some x 
 
 -- The same changes around a crowd, and the turn that is then due. met: the connections that came and went so
 -- far; gave: the numbers of the slots, and the turns given so far.
-abbrev pub ChangesBy : {G R W : Type 0} → (R → Option (List ℕ)) → (W → Option (List ℕ)) → (G → List (Seat R W) → List (Seat R W) → Type 0) → (G → (ℕ → ℕ) → List ℕ → Type 0)
+abbrev pub ChangesBy : {G R W : Type 0} → (R → Option (List ℕ)) → (W → Option (List ℕ)) → (G → List (Seat R W) → List (Seat R W) → Type 0) → (G → (ℕ → ℕ) → List GivenTurn → Type 0)
     → G → G → List (Option (Seat R W)) → List (Option (Seat R W)) → Option Due → Type 0
 ChangesBy {R = R} {W = W} remaining contents met gave before after old new due =
     (came gone : List (Seat R W)) → met before came gone
     → (more went : List (Seat R W)) × met after (came ++ more) (gone ++ went) × (changes : Changes remaining contents old new more went)
-    × ((numbers : ℕ → ℕ) (given : List ℕ) → AreAmong numbers (length came) old → gave before numbers given
-    → gave after (numbers_after changes (length came) numbers) (given ++ whose_turn (numbers_after changes (length came) numbers) due))
+    × ((numbers : ℕ → ℕ) (given : List GivenTurn) → AreAmong numbers (length came) old → gave before numbers given
+    → gave after (numbers_after changes (length came) numbers) (given ++ turn_given (numbers_after changes (length came) numbers) due))
 
 -- Either bytes of the open connection in slot p were read ahead or put back in this way, nothing else was
 -- done to it, and the other slots are unchanged. Or there is no open connection: all slots are unchanged, and

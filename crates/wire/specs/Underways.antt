@@ -22,8 +22,8 @@ pub record IsKept (head given : List ℕ) (kept : Kept) : Type 0 where
   pub fed : ∥ ShaHolds kept.sha given ∥₁
   pub readable : (has_length : Bool) (n : ℕ) (o : Opens head has_length n) → ∥ IsReadable (request_of o.head has_length []) ∥₁
 
--- A head was read that announces a body of n bytes. Of the body those in given were given, and all of them
--- are kept if it is one to be kept. The feed stands there.
+-- A head was read that announces a body of n bytes, and these bytes of the body were given. If the body is one to
+-- be kept, exactly they are kept. The feed stands in the rest of the body.
 pub record IsBegun (head : List ℕ) (n : ℕ) (kept : Option Kept) (p : Place) (given : List ℕ) : Type 0 where
   pub whole : IsWholeHead head n
   pub fits : length given ≤ n

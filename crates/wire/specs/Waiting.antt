@@ -41,8 +41,8 @@ IsFree b = b.most ≡ None
 abbrev pub StaysFree : {T : Type 0} → Backlog → Backlog → Result T WireFault → Type 0
 StaysFree old new result = IsFree old → IsFree new × IfErr result (λ f. f ≢ fault.Waits)
 
--- So many bytes may be read before, and so many after, without end if there is no number. In between, as many
--- bytes came at least as the number fell by. known and known': what the reader had before and after.
+-- How many bytes may be read, before and after. Without a number there is no bound, and there is none after. With
+-- one, at least as many bytes came as it fell by. known and known': what the reader had before and after.
 abbrev pub Spends : Option ℕ → Option ℕ → Option (List ℕ) → Option (List ℕ) → Type 0
 Spends None None known known' = ⊤
 Spends None (Some n) known known' = ⊥

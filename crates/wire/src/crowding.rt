@@ -33,15 +33,17 @@ impl Due {
 /// What happens around an office between two turns. A new connection gets a free slot. Bytes of open
 /// connections may be read ahead or sent. A slot may be freed, whether its connection has ended or not.
 pub trait Crowd<R: Read, W: Write> {
+    ghost use Rattle.wire.specs.Crowds.{GivenTurn};
     ghost use Rattle.wire.specs.declared.seat.Seat.{Seat};
 
     /// The connections that came so far, as they came, and those that went, as they were then.
     ghost met: { Self → List (Seat R W) → List (Seat R W) → Type 0 };
 
-    /// The turns given so far, in order, by the numbers of their connections, and for each slot the number of
-    /// the last connection that came into it. A connection's number is the count of connections before it. A
-    /// crowd may rely on it that the connections in the slots are among those that came.
-    ghost gave: { Self → (ℕ → ℕ) → List ℕ → Type 0 };
+    /// The turns given so far, in order, each with the number of its connection and how many bytes may be read
+    /// in it, and for each slot the number of the last connection that came into it. A connection's number is
+    /// the count of connections before it. A crowd may rely on it that the connections in the slots are among
+    /// those that came.
+    ghost gave: { Self → (ℕ → ℕ) → List GivenTurn → Type 0 };
 
     /// What holds of a connection whose turn is due.
     ghost settled: { Seat R W → Type 0 };

@@ -28,7 +28,7 @@ fn has_failed(end: Option<SessionEnd>) -> bool
 impl<K: Keeper> Office<K> {
     ghost use Rattle.std.specs.Prelude.{◌≤◌, ◌+◌, ◌++◌, ◌<◌, ℕ, List, length, slice_set, Option, None};
     ghost use Rattle.boxes.specs.State.{State};
-    ghost use Rattle.wire.specs.Crowds.{slot_at};
+    ghost use Rattle.wire.specs.Crowds.{GivenTurn, slot_at};
     ghost use Rattle.office.specs.Crowds.{ServesCrowd, TurnsSlot};
     ghost use Rattle.office.specs.Premise.{IsLeft, StaysUnstaged, WasKept};
 
@@ -41,7 +41,7 @@ impl<K: Keeper> Office<K> {
     ) -> Turned
         ensures turns { (s : State) → WasKept K.Keeper self.old.keeper self.new.keeper s
             → (after : State) × IsLeft (K.means self.new.keeper) after
-            × TurnsSlot C.now_gives R.remaining W.contents clock.old clock.new
+            × TurnsSlot C.now_gives R.remaining W.contents due.most clock.old clock.new
             K.Keeper self.old.keeper self.new.keeper s after slot.old slot.new result.is_fault }
         ensures honest { K.is_honest self.new.keeper → K.is_honest self.old.keeper }
         ensures unstaged { StaysUnstaged K.Keeper self.old.keeper self.new.keeper }
@@ -72,7 +72,7 @@ impl<K: Keeper> Office<K> {
         ensures turns { (s : State) → WasKept K.Keeper self.old.keeper self.new.keeper s
             → (after : State) × IsLeft (K.means self.new.keeper) after
             × (now : Option (Seat R W)) × (slots.new ≡ slice_set slots.old due.index now)
-            × TurnsSlot C.now_gives R.remaining W.contents clock.old clock.new
+            × TurnsSlot C.now_gives R.remaining W.contents due.most clock.old clock.new
             K.Keeper self.old.keeper self.new.keeper s after (slot_at slots.old due.index) now result.is_fault }
         ensures slot { (now : Option (Seat R W)) × (slots.new ≡ slice_set slots.old due.index now) }
         ensures honest { K.is_honest self.new.keeper → K.is_honest self.old.keeper }
@@ -96,7 +96,8 @@ impl<K: Keeper> Office<K> {
     /// done at its moment.
     ///
     /// Exactly the turns that the crowd gives are taken, in order, each by its own connection. Each tells at
-    /// most one moment. One that only reads on tells none and answers nothing. The turn in which a connection
+    /// most one moment. One that only reads on tells none and answers nothing. It has read as many bytes as the
+    /// crowd lets it, and those that came of the message are no whole message. The turn in which a connection
     /// ends answers no message in full. A connection gives up only within a message that has begun. The
     /// connections that came, as they were last, are exactly those that went and those in the slots.
     pub fn serve_crowd<R: Read, W: Write, G: Crowd<R, W>, C: Clock>(
@@ -107,9 +108,9 @@ impl<K: Keeper> Office<K> {
     ) -> u64
         ensures serves { ((p : ℕ) → slot_at slots.old p ≡ None)
             → (before gone : List (Seat R W)) → G.met crowd.old before gone
-            → (numbers : ℕ → ℕ) (given : List ℕ) → G.gave crowd.old numbers given
+            → (numbers : ℕ → ℕ) (given : List GivenTurn) → G.gave crowd.old numbers given
             → (came went : List (Seat R W)) × G.met crowd.new (before ++ came) (gone ++ went)
-            × (numbered : ℕ → ℕ) × (more : List ℕ) × G.gave crowd.new numbered (given ++ more)
+            × (numbered : ℕ → ℕ) × (more : List GivenTurn) × G.gave crowd.new numbered (given ++ more)
             × (G.turns crowd.old ≡ G.turns crowd.new + length more)
             × ((s : State) → WasKept K.Keeper self.old.keeper self.new.keeper s
             → (after : State) × IsLeft (K.means self.new.keeper) after

@@ -1,6 +1,6 @@
 use Rattle.std.proofs.Common.{[], ◌≡◌, ◌+◌, ◌++◌, ◌∷◌, ◌∙◌, Bool, Option, cond, length, ap, inl, sym, subst, append_assoc, arith}
 use Rattle.std.proofs.lemmas.List.{append-nil, length-append, length_push}
-use Rattle.wire.specs.Crowds.{numbers_after, whose_turn}
+use Rattle.wire.specs.Crowds.{GivenTurn, numbers_after, turn_given}
 use Rattle.wire.specs.declared.crowding.Due.{Due}
 use Rattle.wire.proofs.Changing.{among_turned}
 use Rattle.wire.proofs.Ties.{none_is}
@@ -45,7 +45,7 @@ returns-clause-serves g c free before gone met numbers given gave =
     let more = c.next.ensures.changes (before ++ i.0) (gone ++ i.1) i.2 in
     let n = length (before ++ i.0) in
     let numbered = numbers_after more.3 n i.3 in
-    let none = subst (λ (r : Option Due). g.G.Crowd.gave c.next.new.self numbered ((given ++ i.4) ++ whose_turn numbered r)) c.in_default.is (more.4 i.3 (given ++ i.4) i.7 i.5) in (
+    let none = subst (λ (r : Option Due). g.G.Crowd.gave c.next.new.self numbered ((given ++ i.4) ++ turn_given numbered r)) c.in_default.is (more.4 i.3 (given ++ i.4) i.7 i.5) in (
       i.0 ++ more.0,
       i.1 ++ more.1,
       subst (λ l. g.G.Crowd.met c.next.new.self l (gone ++ (i.1 ++ more.1))) (append_assoc before i.0 more.0) (subst (g.G.Crowd.met c.next.new.self ((before ++ i.0) ++ more.0)) (append_assoc gone i.1 more.1) more.2),
@@ -78,7 +78,7 @@ turns-preserved g c =
           let more = c.in-Some.ensures.changes (before ++ i.0) (gone ++ i.1) i.2 in
           let n = length (before ++ i.0) in
           let numbered = numbers_after more.3 n i.3 in
-          let whose = numbered c.in-Some.due.index in (
+          let whose : GivenTurn = record { whose = numbered c.in-Some.due.index; most = c.in-Some.due.most } in (
             i.0 ++ more.0,
             i.1 ++ more.1,
             subst (λ l. g.G.Crowd.met c.next.new.self l (gone ++ (i.1 ++ more.1))) (append_assoc before i.0 more.0) (subst (g.G.Crowd.met c.next.new.self ((before ++ i.0) ++ more.0)) (append_assoc gone i.1 more.1) more.2),
@@ -96,7 +96,7 @@ turns-preserved g c =
                   h.0,
                   h.1,
                   subst (λ l. CrowdSoFar g.R.Read.remaining g.W.Write.contents g.C.Clock.now_gives g.K.Keeper l (i.0 ++ more.0) (i.1 ++ more.1) (length before) numbered (i.4 ++ whose ∷ []) c.args.clock.now c.turn_at-turned.new.clock c.args.self.now.keeper c.turn_at-turned.new.self.keeper (c.turns.faulty + c.if-turned.faulty) s h.0) (sym h.3)
-                      (turned_more g.R.Read.remaining g.W.Write.contents g.C.Clock.now_gives g.K.Keeper (length before) c.args.clock.now c.args.self.now.keeper s c.next.new.slots numbered (i.0 ++ more.0) (i.1 ++ more.1) i.4
+                      (turned_more g.R.Read.remaining g.W.Write.contents g.C.Clock.now_gives g.K.Keeper (length before) c.args.clock.now c.args.self.now.keeper s c.next.new.slots numbered (i.0 ++ more.0) (i.1 ++ more.1) i.4 c.in-Some.due.most
                       c.turns.clock c.turn_at-turned.new.clock c.turns.self.keeper c.turn_at-turned.new.self.keeper c.turns.faulty x.0 h.0
                       (c.turns.faulty + c.if-turned.faulty) c.in-Some.due.index h.2 c.turn_at-turned.result.is_fault c.in-Some.ensures.due (ap (λ n. c.turns.faulty + n) one) h.4 t),
                 ),

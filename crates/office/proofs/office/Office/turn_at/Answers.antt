@@ -11,7 +11,7 @@ returns-clause-turns g c s kept =
       h.1,
       c.turn_slot.new.slot,
       refl,
-      subst (λ o. TurnsSlot g.C.Clock.now_gives g.R.Read.remaining g.W.Write.contents c.args.clock.now c.turn_slot.new.clock g.K.Keeper c.args.self.now.keeper c.turn_slot.new.self.keeper s h.0 o c.turn_slot.new.slot c.turn_slot.result.is_fault)
+      subst (λ o. TurnsSlot g.C.Clock.now_gives g.R.Read.remaining g.W.Write.contents c.args.due.most c.args.clock.now c.turn_slot.new.clock g.K.Keeper c.args.self.now.keeper c.turn_slot.new.self.keeper s h.0 o c.turn_slot.new.slot c.turn_slot.result.is_fault)
           (sym (get_or_default c.args.slots.now c.args.due.index None c.index-slots-due.result c.requires)) h.2,
     )
 

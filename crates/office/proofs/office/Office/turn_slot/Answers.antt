@@ -11,7 +11,7 @@ returns-in_default-clause-turns g c s kept =
     let none : c.args.slot.now ≡ None = search rules in (
       s,
       record { means = kept.means; sound = kept.sound },
-      subst (λ (o : Option (Seat g.row.R.Denot g.row.W.Denot)). TurnsSlot g.C.Clock.now_gives g.R.Read.remaining g.W.Write.contents c.args.clock.now c.args.clock.now g.K.Keeper c.args.self.now.keeper c.args.self.now.keeper s s o o false)
+      subst (λ (o : Option (Seat g.row.R.Denot g.row.W.Denot)). TurnsSlot g.C.Clock.now_gives g.R.Read.remaining g.W.Write.contents c.args.due.most c.args.clock.now c.args.clock.now g.K.Keeper c.args.self.now.keeper c.args.self.now.keeper s s o o false)
           (sym none) (nobody refl refl refl),
     )
 
@@ -27,8 +27,9 @@ returns-clause-turns g c s kept =
     ] in (
       h.0,
       h.1,
-      taken_by g.R.Read.remaining g.W.Write.contents g.C.Clock.now_gives g.K.Keeper c.args.clock.now c.take_turn-spare.new.clock c.args.self.now.keeper c.take_turn-spare.new.self.keeper s h.0
-          c.args.slot.now c.if-was_open.slot c.if-was_open.result c.in-Some.seat c.take_turn-spare.new.seat c.in-Some.is slot told h.2 c.take_turn-spare.ensures.faults,
+      taken_by g.R.Read.remaining g.W.Write.contents c.args.due.most g.C.Clock.now_gives g.K.Keeper c.args.clock.now c.take_turn-spare.new.clock c.args.self.now.keeper c.take_turn-spare.new.self.keeper s h.0
+          c.args.slot.now c.if-was_open.slot c.if-was_open.result c.in-Some.seat c.take_turn-spare.new.seat c.in-Some.is slot told h.2 c.take_turn-spare.ensures.faults
+          (record { all = c.take_turn-spare.ensures.all; awaits = c.take_turn-spare.ensures.awaits }),
     )
 
 pub returns-clause-honest : goal.returns-clause-honest

@@ -15,7 +15,7 @@ returns-in-Turn-clause-changes g c came gone met =
       x.2,
       x.3,
       λ numbers given among gave.
-          gave_one _ _ c.args.slots.now c.actions.slots x.0 x.1 (length came) numbers x.3 c.in-Turn.due.index _ _ _ _ given among (c.may_turn.ensures.is_open c.if-may_turn.true) met.counted (omega (arith, met.counted, x.2.counted, length-append came x.0))
+          gave_one _ _ c.args.slots.now c.actions.slots x.0 x.1 (length came) numbers x.3 c.in-Turn.due.index _ _ _ _ c.in-Turn.due.most given among (c.may_turn.ensures.is_open c.if-may_turn.true) met.counted (omega (arith, met.counted, x.2.counted, length-append came x.0))
           (omega (arith, c.if-self-gt0.true, c.actions.invariant.1)) gave,
     )
 
