@@ -26,6 +26,7 @@ HONEST = 4
 LATE = 5.0  # how many seconds a file may take beyond what its line needs
 OWN = 128 << 10  # the bytes that a refused body may take
 ROOM = 64  # MB for bodies that come
+SHORT = 3.0  # seconds for 65536 bytes of a body, while another waits for room
 OTHER = "OTHERSECRET"
 
 
@@ -109,6 +110,38 @@ def test_pace(drop, check):
             told += small.result()
         check("pace: the end", difference(server.end(), server.owed_end(False)))
     add_office(drop, file, check, "pace", sorted(told))
+
+
+def trickled(peer, data):
+    """Sends 4 KiB each half second, until the server closes the connection. Whether it did within 20 seconds."""
+    begun = time.monotonic()
+    for at in range(0, len(data), 4096):
+        time.sleep(0.5)
+        try:
+            peer.socket.sendall(data[at:at + 4096])
+        except ConnectionError:
+            return True
+        if time.monotonic() - begun > 20:
+            break
+    return False
+
+
+def test_room(drop, check):
+    """Where there is room for one file only, one that comes too slowly gives up its room to one that waits."""
+    file, date = open_office(drop, "room"), a_minute_ago()
+    slow, quick = [put(b"/in/" + name, name * SIZE, date=date) for name in [b"s", b"q"]]
+    with Server(drop, file, 2, PATIENCE, room=1) as server, Peer(server.connect) as first:
+        first.socket.sendall(slow[:300_000])
+        time.sleep(0.5)
+        with concurrent.futures.ThreadPoolExecutor(1) as pool, Peer(server.connect) as second:
+            is_cut, begun = pool.submit(trickled, first, slow[300_000:]), time.monotonic()
+            check("room: the receipt", difference(second.ask(quick), receipt(1, b"q" * SIZE)))
+            took = time.monotonic() - begun
+            print(f"room: the one that waited had its receipt after {took:.1f} s")
+            check("room: in time", f"after {took:.1f} s" if took > SHORT + SOON else None)
+            check("room: the slow one", None if is_cut.result() else "it still has its room")
+        check("room: the end", difference(server.end(), server.owed_end(True)))
+    add_office(drop, file, check, "room", [1])
 
 
 def test_stranger(drop, check):
