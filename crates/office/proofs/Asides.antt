@@ -7,7 +7,7 @@ use Rattle.std.proofs.KnownBytes.{Keeps-refl, prepend_known-nil}
 use Rattle.sigtext.specs.Limits.{most_head}
 use Rattle.boxes.specs.State.{State}
 use Rattle.boxes.specs.declared.keep.Keeper.{Ghosts}
-use Rattle.wire.specs.Feeding.{Awaits}
+use Rattle.wire.specs.Feeding.{Awaits, AwaitsHead, a_head}
 use Rattle.wire.specs.Feeds.{TakesAllIn, ahead_of, given_before, given_of, left, place_of, reader_of, resumed_at, stood_at, waits_in, whole_left}
 use Rattle.wire.specs.Seats.{came_behind, left_behind}
 use Rattle.wire.specs.Waiting.{TakesAll}
@@ -24,6 +24,7 @@ use Rattle.wire.proofs.Ties.{none_is, some_is}
 use Rattle.office.specs.Connections.{MayGiveUp}
 use Rattle.office.specs.Premise.{HoldsUnless}
 use Rattle.office.specs.Resuming.{GoesOnFrom}
+use Rattle.office.specs.Seats.{LacksRest}
 use Rattle.office.specs.Stepping.{AwaitsMore, GoesOn, Steps, TellsStep, WaitsBehind}
 use Rattle.office.specs.Turning.{MayEndGivingUp, StandsAside, TellsAside, TurnsTo, turn_of}
 use Rattle.office.specs.declared.connections.resuming.Resumed.TheVariants as resumed
@@ -137,12 +138,22 @@ done_not_waits (Some e) is = absurd cc
 
 -- ---- a step that waits
 
--- more bytes of the message are needed, whose head is this
-pub awaits_aside : {R : Type 0} (feed : Feed R) (standing : Standing) (head : List ℕ) → given_of feed ≡ given_before standing → waits_in feed ≡ ahead_of standing → AwaitsMore head feed
-    → ∥ Awaits (head ++ (given_before standing ++ ahead_of standing)) ∥₁
-awaits_aside feed standing head given ahead more =
-    subst (λ (l : List ℕ). ∥ Awaits (head ++ (l ++ ahead_of standing)) ∥₁) given
-    (subst (λ (l : List ℕ). ∥ Awaits (head ++ (given_of feed ++ l)) ∥₁) ahead more)
+-- more bytes of the body are needed
+pub awaits_aside : {R : Type 0} (feed : Feed R) (standing : Standing) (u : Underway) → given_of feed ≡ given_before standing → waits_in feed ≡ ahead_of standing → AwaitsMore (head_of u) feed
+    → LacksRest (Some u) standing
+awaits_aside feed standing u given ahead more = record {
+  awaits =
+      subst (λ (l : List ℕ). ∥ Awaits (head_of u ++ (l ++ ahead_of standing)) ∥₁) given
+      (subst (λ (l : List ℕ). ∥ Awaits (head_of u ++ (given_of feed ++ l)) ∥₁) ahead more.1);
+  head = λ none. absurd (none_is u (sym none));
+  body = λ v at. sym ahead ∙ more.0;
+}
+
+-- more bytes of the head are needed
+awaits_none : {R : Type 0} (feed : Feed R) (standing : Standing) → given_before standing ≡ [] → waits_in feed ≡ ahead_of standing → AwaitsHead (waits_in feed) → LacksRest None standing
+awaits_none feed standing given ahead head =
+    let all : AwaitsHead (came_behind None standing) = subst (λ (l : List ℕ). AwaitsHead (l ++ ahead_of standing)) (sym given) (subst AwaitsHead ahead head) in
+    record { awaits = ∣ a_head all ∣₁; head = λ _. all; body = λ u is. absurd (none_is u is) }
 
 -- it has taken all the bytes that it may read
 pub all_aside : {R : Type 0} (remaining : R → Option (List ℕ)) (first last : Feed R) (most : Option ℕ) (old new : Counted R) → first.backlog.most ≡ most → reader_of first ≡ old → reader_of last ≡ new
@@ -154,21 +165,21 @@ all_aside {R = R} remaining first last most old new is before after all =
 
 -- between two messages
 pub stands_none : {R : Type 0} (feed : Feed R) (standing : Standing) (underway : Option Underway) → underway ≡ None → stood_at standing ≡ place_of feed → given_of feed ≡ given_before standing → waits_in feed ≡ ahead_of standing
-    → (place_of feed ≡ place.Between) × (given_of feed ≡ []) × AwaitsMore [] feed
-    → (underway ≡ None → (stood_at standing ≡ place.Between) × (given_before standing ≡ [])) × ForSome underway (λ u. IsUnderway u standing) × ∥ Awaits (came_behind underway standing) ∥₁
+    → (place_of feed ≡ place.Between) × (given_of feed ≡ []) × AwaitsHead (waits_in feed)
+    → (underway ≡ None → (stood_at standing ≡ place.Between) × (given_before standing ≡ [])) × ForSome underway (λ u. IsUnderway u standing) × LacksRest underway standing
 stands_none feed standing underway none here given ahead goes = (
   λ _. (here ∙ goes.0, sym given ∙ goes.1),
   λ u is. absurd (none_is u (sym none ∙ is)),
-  subst (λ (o : Option Underway). ∥ Awaits (came_behind o standing) ∥₁) (sym none) (awaits_aside feed standing [] given ahead goes.2),
+  subst (λ (o : Option Underway). LacksRest o standing) (sym none) (awaits_none feed standing (sym given ∙ goes.1) ahead goes.2),
 )
 
 -- within a body
-pub stands_begun : (standing : Standing) (u : Underway) → IsUnderway u standing → ∥ Awaits (came_behind (Some u) standing) ∥₁
-    → (Some u ≡ None → (stood_at standing ≡ place.Between) × (given_before standing ≡ [])) × ForSome (Some u) (λ v. IsUnderway v standing) × ∥ Awaits (came_behind (Some u) standing) ∥₁
+pub stands_begun : (standing : Standing) (u : Underway) → IsUnderway u standing → LacksRest (Some u) standing
+    → (Some u ≡ None → (stood_at standing ≡ place.Between) × (given_before standing ≡ [])) × ForSome (Some u) (λ v. IsUnderway v standing) × LacksRest (Some u) standing
 stands_begun standing u begun more = (λ none. absurd (none_is u (sym none)), λ v at. subst (λ (w : Underway). IsUnderway w standing) (some_is u v at) begun, more)
 
 pub none_there : {R : Type 0} (feed : Feed R) (block : List ℕ) (o : Option Begun) → o ≡ None → WaitsBehind feed block (stepped.Waits o)
-    → (place_of feed ≡ place.Between) × (given_of feed ≡ []) × AwaitsMore [] feed
+    → (place_of feed ≡ place.Between) × (given_of feed ≡ []) × AwaitsHead (waits_in feed)
 none_there feed block o is waits = subst (λ (x : Option Begun). WaitsBehind feed block (stepped.Waits x)) is waits
 
 pub begun_there : {R : Type 0} (feed : Feed R) (block : List ℕ) (o : Option Begun) (b : Begun) → o ≡ Some b → WaitsBehind feed block (stepped.Waits o)

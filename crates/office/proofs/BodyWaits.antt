@@ -15,7 +15,7 @@ use Rattle.sigv4.specs.Hashers.{ShaHolds}
 use Rattle.sigv4.specs.declared.hash.Sha.{Sha}
 use Rattle.boxes.specs.State.{State}
 use Rattle.boxes.specs.declared.keep.Keeper.{Ghosts}
-use Rattle.wire.specs.Feeding.{Awaits, AwaitsHead, a_head, Opens}
+use Rattle.wire.specs.Feeding.{Awaits, Opens}
 use Rattle.wire.specs.Feeds.{given_of, left, place_of, waits_in, whole_left}
 use Rattle.wire.specs.Framing.{IsFront, request_of}
 use Rattle.wire.specs.Underways.{IsBegun, IsKept, IsWholeHead}
@@ -123,10 +123,6 @@ module _ {R K : Type 0} (remaining : R → Option (List ℕ)) (k : Ghosts K) (si
 
 -- ---- what came is no whole message
 
--- no head has come whole
-pub awaits_a_head : {R : Type 0} (feed : Feed R) → given_of feed ≡ [] → AwaitsHead (waits_in feed) → AwaitsMore [] feed
-awaits_a_head feed none head = ∣ a_head (subst AwaitsHead (sym (ap (λ (given : List ℕ). given ++ waits_in feed) none)) head) ∣₁
-
 module _ {R : Type 0} (remaining : R → Option (List ℕ)) (size : ℕ) (old new : Feed R) (text : List ℕ) where
   -- the body that the head announces has not come whole
   awaits_a_body : (has_length : Bool) → Opens text has_length size → WaitsWithin remaining size old new → Awaits (text ++ (given_of new ++ waits_in new))
@@ -136,11 +132,11 @@ module _ {R : Type 0} (remaining : R → Option (List ℕ)) (size : ℕ) (old ne
       subst (λ (came : List ℕ). Awaits (text ++ came)) all (awaits_body text given has_length size o w.few)
 
   pub awaits_more : (has_length : Bool) → Opens text has_length size → WaitsWithin remaining size old new → AwaitsMore text new
-  awaits_more has_length o w = ∣ awaits_a_body has_length o w ∣₁
+  awaits_more has_length o w = (w.none, ∣ awaits_a_body has_length o w ∣₁)
 
   -- the same for a head that is whole
   pub still_awaits : IsWholeHead text size → WaitsWithin remaining size old new → AwaitsMore text new
-  still_awaits whole w = ∥∥₁_map whole (λ (x : (has_length : Bool) × Opens text has_length size). awaits_a_body x.0 x.1 w)
+  still_awaits whole w = (w.none, ∥∥₁_map whole (λ (x : (has_length : Bool) × Opens text has_length size). awaits_a_body x.0 x.1 w))
 
 -- ---- small facts
 

@@ -26,7 +26,7 @@ use Rattle.wire.specs.declared.session.SessionEnd.{SessionEnd}
 use Rattle.office.proofs.Counting.{AllTook, took_of, turn_by}
 use Rattle.office.proofs.Endurance.{survives_more}
 use Rattle.office.proofs.Repeats.{repeats_once}
-use Rattle.office.proofs.Needs.{more_needed}
+use Rattle.office.proofs.Needs.{more_needed, part_gathered, part_of, part_sent}
 use Rattle.office.proofs.RunSoFar.{MeansOne}
 use Rattle.office.proofs.Sitting.{Lost, Sitting, answered, closed, gathered, reads_on, sent_on}
 use Rattle.wire.proofs.Ties.{none_is}
@@ -126,6 +126,7 @@ module _ {R W : Type 0} (remaining : R → Option (List ℕ)) (contents : W → 
     written = contents now.writer.inner;
     served = now.served;
     waited = waits_of now;
+    part = part_of now;
     end = now.end;
     gave_up = gave_up;
     lost = lost;
@@ -194,12 +195,12 @@ module _ {R W : Type 0} (remaining : R → Option (List ℕ)) (contents : W → 
         let old = get_or ns p d in
         let x = get_or t.sittings p dx in
         let z = sitting_of at.first old x.gave_up x.lost in
-        let y = answered z (left_of remaining new) (remaining new.reader.inner) (contents new.writer.inner) in
+        let y = answered z (left_of remaining new) (remaining new.reader.inner) (contents new.writer.inner) (part_of new) in
         record {
           sittings = set t.sittings p y;
           are = at.more new y (same_sitting at.first new (old.served + 1) (waits_of old) old.end x.gave_up x.lost served (same_waits old new kept_waits) (is_open ∙ sym was_open));
           so_far = answered_more gives k t.sittings clock clock' keeper keeper' s mid t.so_far p dx z at.within at.is was_open most
-              (left_of remaining new) (remaining new.reader.inner) (contents new.writer.inner) clock'' keeper'' after (subst (λ n. n ≤ most_messages) served new.few) goes;
+              (left_of remaining new) (remaining new.reader.inner) (contents new.writer.inner) (part_of new) clock'' keeper'' after (subst (λ n. n ≤ most_messages) served new.few) goes;
         }
     turns_more most (read_on was_open is_open served waited keeps stood same_state) full t =
         let dx = sitting_of d d false None in
@@ -207,7 +208,7 @@ module _ {R W : Type 0} (remaining : R → Option (List ℕ)) (contents : W → 
         let old = get_or ns p d in
         let x = get_or t.sittings p dx in
         let z = sitting_of at.first old x.gave_up x.lost in
-        let y = reads_on z (left_of remaining new) (remaining new.reader.inner) in
+        let y = reads_on z (left_of remaining new) (remaining new.reader.inner) (part_of new) in
         let unwritten : z.written ≡ contents new.writer.inner = ap (λ (w : Counted W). contents w.inner) (sym stood.written) in
         let (bound, is_bound, needs) = more_needed remaining old new waited keeps most full in
         let now : List GivenTurn = whose ++ record { whose = p; most = most } ∷ [] in
@@ -218,7 +219,7 @@ module _ {R W : Type 0} (remaining : R → Option (List ℕ)) (contents : W → 
               (subst (λ (a : State). SoFar gives k (set t.sittings p y) now clock clock' keeper keeper'' s a) (sym same_state)
               (subst (λ (o : Option ℕ). SoFar gives k (set t.sittings p y) (whose ++ record { whose = p; most = o } ∷ []) clock clock' keeper keeper'' s mid) (sym is_bound)
               (read_on_more gives k t.sittings clock clock' keeper keeper' s mid t.so_far p dx z at.within at.is was_open
-              (left_of remaining new) (remaining new.reader.inner) keeper'' bound needs keeps stood.held stood.lasts)));
+              (left_of remaining new) (remaining new.reader.inner) (part_of new) keeper'' bound needs keeps stood.held stood.lasts)));
         }
     turns_more most (ended n e was_open is served kept_waits sum serves once begun) full t =
         let dx = sitting_of d d false None in
@@ -226,12 +227,12 @@ module _ {R W : Type 0} (remaining : R → Option (List ℕ)) (contents : W → 
         let old = get_or ns p d in
         let x = get_or t.sittings p dx in
         let z = sitting_of at.first old x.gave_up x.lost in
-        let y = closed z (left_of remaining new) (remaining new.reader.inner) (contents new.writer.inner) e serves.gave_up (lost_of serves.session) in
+        let y = closed z (left_of remaining new) (remaining new.reader.inner) (contents new.writer.inner) (part_of new) e serves.gave_up (lost_of serves.session) in
         record {
           sittings = set t.sittings p y;
           are = at.more new y (same_sitting at.first new old.served (waits_of old) (Some e) serves.gave_up (lost_of serves.session) served (same_waits old new kept_waits) is);
           so_far = closed_more gives k t.sittings clock clock' keeper keeper' s mid t.so_far p dx z at.within at.is was_open most
-              (left_of remaining new) (remaining new.reader.inner) (contents new.writer.inner) clock'' keeper'' after n e sum serves once begun;
+              (left_of remaining new) (remaining new.reader.inner) (contents new.writer.inner) (part_of new) clock'' keeper'' after n e sum serves once begun;
         }
 
   -- ---- between two turns
@@ -239,12 +240,14 @@ module _ {R W : Type 0} (remaining : R → Option (List ℕ)) (contents : W → 
   -- the sitting is the same except for what was sent
   sent_is : (first old new : Seat R W) (gave_up : Bool) (lost : Option Lost) → Sends contents old new → sent_on (sitting_of first old gave_up lost) (contents new.writer.inner) ≡ sitting_of first new gave_up lost
   sent_is first old new gave_up lost g =
+      let part = part_sent contents old new g in
       let same : left_of remaining old ≡ left_of remaining new =
       ap (λ (l : Standing). left_behind old.underway l (remaining old.reader.inner)) (sym g.standing)
       ∙ ap (λ (u : Option Underway). left_behind u new.standing (remaining old.reader.inner)) (sym g.underway)
       ∙ ap (λ (r : Counted R). left_behind new.underway new.standing (remaining r.inner)) (sym g.reader) in
-      ap (λ (l : Option (List ℕ)). record (sitting_of first new gave_up lost) { left = l; reader = remaining old.reader.inner; served = old.served; waited = waits_of old; end = old.end }) same
-      ∙ ap (λ (r : Counted R). record (sitting_of first new gave_up lost) { reader = remaining r.inner; served = old.served; waited = waits_of old; end = old.end }) (sym g.reader)
+      ap (λ (l : Option (List ℕ)). record (sitting_of first new gave_up lost) { left = l; reader = remaining old.reader.inner; served = old.served; waited = waits_of old; part = part_of old; end = old.end }) same
+      ∙ ap (λ (r : Counted R). record (sitting_of first new gave_up lost) { reader = remaining r.inner; served = old.served; waited = waits_of old; part = part_of old; end = old.end }) (sym g.reader)
+      ∙ ap (λ (n : ℕ). record (sitting_of first new gave_up lost) { served = old.served; waited = waits_of old; part = n; end = old.end }) (sym part)
       ∙ same_sitting first new old.served (waits_of old) old.end gave_up lost g.served (same_waits old new g.waited) g.end
 
   module _ {C K : Type 0} {whose : List GivenTurn} (gives : C → ℕ → C → Type 0) (k : Ghosts K) (fs ns : List (Seat R W)) (clock clock' : C) (keeper keeper' : K) (s mid : State) where
@@ -259,7 +262,7 @@ module _ {R W : Type 0} (remaining : R → Option (List ℕ)) (contents : W → 
         let y = gathered z (left_of remaining new) (remaining new.reader.inner) in
         record {
           sittings = set t.sittings p y;
-          are = at.more new y (ap (λ (w : Counted W). record y { written = contents w.inner }) (sym g.writer) ∙ same_sitting at.first new old.served (waits_of old) old.end x.gave_up x.lost g.served (same_waits old new g.waited) g.end);
+          are = at.more new y (ap (λ (w : Counted W). record y { written = contents w.inner }) (sym g.writer) ∙ ap (λ (n : ℕ). record y { written = contents new.writer.inner; part = n }) (sym (part_gathered remaining old new is_open g)) ∙ same_sitting at.first new old.served (waits_of old) old.end x.gave_up x.lost g.served (same_waits old new g.waited) g.end);
           so_far = gathered_more gives k t.sittings clock clock' keeper keeper' s mid t.so_far p dx z at.within at.is is_open (left_of remaining new) (remaining new.reader.inner) g.keeps;
         }
 

@@ -1,6 +1,7 @@
 -- One connection among others as it is now, and the effect of a turn on it.
 use Rattle.std.proofs.Common.{◌≡◌, ◌≤◌, ◌+◌, ℕ, suc, Bool, true, false, List, [], ◌∷◌, ◌++◌, map, Option, Some, None, refl, sym, ap, subst, ◌∙◌, append_assoc, arith}
 use Rattle.std.specs.Prelude.{IfSome}
+use Rattle.std.specs.List.{AllByRecursion}
 use Rattle.std.proofs.KnownBytes.{Appends-kept, Appends-nil, Appends-trans, Consumes-kept, Consumes-nil, Consumes-trans}
 use Rattle.std.specs.Io.KnownBytes.{Appends, Consumes, Keeps}
 use Rattle.std.proofs.lemmas.List.{append-nil}
@@ -10,11 +11,12 @@ use Rattle.wire.specs.Framing as frame
 use Rattle.boxes.specs.declared.keep.Keeper.{Ghosts}
 use Rattle.boxes.specs.State.{State}
 use Rattle.office.specs.Connections.{IsKnown, IsStream}
-use Rattle.office.specs.Interleaved.{AnswersNone, GaveUpWithin, HasGivenUp, IsBehind, NeedsMore, ReadAll, ReadOn, Speaks, SpeaksInTurns, Turn, acts_in, moments_in}
+use Rattle.office.specs.Interleaved.{AnswersNone, GaveUpWithin, HasBound, HasGivenUp, HasRead, IsBehind, NeedsMore, ReadOn, ReadsThrough, Speaks, SpeaksInTurns, Turn, acts_in, moments_in}
 use Rattle.office.specs.Interleaved as said
 use Rattle.office.specs.Repeats.{Act, text_of}
 use Rattle.office.specs.Sessions.{HasBegunMessage, most_messages}
 use Rattle.office.specs.Stepping.{Goes}
+use Rattle.wire.proofs.Ties.{all_more, none_is}
 use Rattle.wire.specs.declared.session.SessionEnd.{SessionEnd}
 use Rattle.wire.specs.declared.session.SessionEnd.TheVariants.{Ended, Truncated, Refused, Limit, ReadFault, WriteFault}
 
@@ -28,8 +30,8 @@ IsLost None r now = ⊥
 IsLost (Some l) r now = (r ≡ l.request) × (now ≡ l.moment)
 
 -- Known bytes: of its stream at first, what is left of it in all, and what is left in its reader; of its
--- answers at first and now. Also how many messages were served, how it ended, whether it gave up, and the
--- request that it gave up, if that was read whole.
+-- answers at first and now. Also how many messages were served, how many turns only read on, how many bytes of the
+-- next message were taken, how it ended, whether it gave up, and the request that it gave up, if that was read whole.
 pub record Sitting : Type 0 where
   pub input : Option (List ℕ)
   pub left : Option (List ℕ)
@@ -38,6 +40,7 @@ pub record Sitting : Type 0 where
   pub written : Option (List ℕ)
   pub served : ℕ
   pub waited : ℕ
+  pub part : ℕ
   pub end : Option SessionEnd
   pub gave_up : Bool
   pub lost : Option Lost
@@ -57,7 +60,8 @@ pub record Heard (x : Sitting) (turns : List Turn) : Type 0 where
   pub unlost : x.lost ≡ None
   pub tied : moments_in turns ≡ nows (acts_in turns)
   pub behind : (stream rest : List ℕ) (later : List Act) → IsBehind stream later rest → IsBehind (front ++ stream) (acts_in turns ++ later) rest
-  pub read_on : ReadAll x.input [] turns
+  pub bounded : AllByRecursion HasBound turns
+  pub has_read : (stream rest : List ℕ) → x.input ≡ Some stream → x.left ≡ Some rest → (kept : ℕ) × (kept ≤ x.part) × HasRead stream turns rest kept
   pub follows : (n m : ℕ) (stream : List ℕ) (later : List Turn) (out : List ℕ) (e : Option SessionEnd) (gave_up : Bool) → n + x.served ≡ m
       → SpeaksInTurns n stream later out e gave_up → SpeaksInTurns m (front ++ stream) (turns ++ later) (text ++ out) e gave_up
 
@@ -126,20 +130,29 @@ sits_open x turns is h = subst (λ e. SitsSo e x turns) (sym is) h
 
 -- ---- turns that only read on
 
--- A turn that answers nothing read all the bytes that it might, and more were needed. acts: what was done before.
-abbrev NeedsThen : Option (List ℕ) → List Act → Turn → Type 0
-NeedsThen input acts t = t.acts ≡ [] → (most : ℕ) × (t.most ≡ Some most) × IfSome input (λ stream. (rest : List ℕ) × IsBehind stream acts rest × NeedsMore most rest)
+-- what is left of a known stream is known
+left_known : (input left : Option (List ℕ)) (stream front : List ℕ) → Consumes input left front → input ≡ Some stream → (rest : List ℕ) × (left ≡ Some rest) × (stream ≡ front ++ rest)
+left_known None left stream front taken is = absurd cc
+left_known (Some s) None stream front taken is = absurd taken
+left_known (Some s) (Some rest) stream front taken is =
+    let same : s ≡ stream = cc in
+    (rest, refl, sym same ∙ taken)
 
-read_all_more : (input : Option (List ℕ)) (acts : List Act) (turns : List Turn) (t : Turn) → ReadAll input acts turns → NeedsThen input (acts ++ acts_in turns) t → ReadAll input acts (turns ++ t ∷ [])
-read_all_more input acts [] t all one = (subst (λ l. NeedsThen input l t) (append-nil acts) one, tt)
-read_all_more input acts (u ∷ turns) t all one =
-    (all.0, read_all_more input (acts ++ u.acts) turns t all.1 (subst (λ l. NeedsThen input l t) (sym (append_assoc acts u.acts (acts_in turns))) one))
+kept_left : (left left' : Option (List ℕ)) (rest rest' : List ℕ) → left ≡ Some rest → Keeps left left' → left' ≡ Some rest' → left ≡ Some rest'
+kept_left None left' rest rest' was keeps is = absurd cc
+kept_left (Some r) None rest rest' was keeps is = absurd cc
+kept_left (Some r) (Some r') rest rest' was keeps is = ap Some (sym keeps) ∙ is
 
-needs_behind : (most : ℕ) (acts : List Act) (input left : Option (List ℕ)) (front : List ℕ) → Consumes input left front → ((stream : List ℕ) → IsBehind (front ++ stream) acts stream)
-    → ((bytes : List ℕ) → left ≡ Some bytes → NeedsMore most bytes) → IfSome input (λ stream. (rest : List ℕ) × IsBehind stream acts rest × NeedsMore most rest)
-needs_behind most acts None left front taken behind needs = tt
-needs_behind most acts (Some s) None front taken behind needs = absurd taken
-needs_behind most acts (Some s) (Some l) front taken behind needs = (l, subst (λ z. IsBehind z acts l) (sym taken) (behind l), needs l refl)
+-- a known stream was read through so far
+pub reads_through : (x : Sitting) (turns : List Turn) → Heard x turns → ReadsThrough x.input turns
+reads_through x turns h = (h.bounded, by_input x.input refl)
+  where
+    by_input : (input : Option (List ℕ)) → x.input ≡ input → IfSome input (λ stream. (rest : List ℕ) × (kept : ℕ) × HasRead stream turns rest kept)
+    by_input None is = tt
+    by_input (Some stream) is =
+        let (rest, at, whole) = left_known x.input x.left stream h.front h.taken is in
+        let (kept, within, read) = h.has_read stream rest is at in
+        (rest, kept, read)
 
 -- ---- a new connection
 
@@ -164,7 +177,10 @@ first_sits x is = sits_open x [] is.open_still (record {
   unlost = is.unlost;
   tied = refl;
   behind = λ stream rest later h. h;
-  read_on = tt;
+  bounded = tt;
+  has_read = λ stream rest at left.
+      let same : stream ≡ rest = let both : Some stream ≡ Some rest = sym at ∙ sym is.all ∙ left in cc in
+      (0, omega arith, subst (λ (l : List ℕ). HasRead stream [] l 0) same (said.no_turn));
   follows = λ n m stream later out e gave_up sum sp. let same : n ≡ m = omega (arith, sum, is.none) in subst (λ k. SpeaksInTurns k stream later out e gave_up) same sp;
 })
 
@@ -184,7 +200,8 @@ sent_so x written turns None holds h = record {
   unlost = h.unlost;
   tied = h.tied;
   behind = h.behind;
-  read_on = h.read_on;
+  bounded = h.bounded;
+  has_read = h.has_read;
   follows = h.follows;
 }
 sent_so x written turns (Some e) holds h = record {
@@ -217,18 +234,25 @@ gathered_sits x left reader turns keeps h = record {
   unlost = h.unlost;
   tied = h.tied;
   behind = h.behind;
-  read_on = h.read_on;
+  bounded = h.bounded;
+  has_read = λ stream rest at now.
+      let (all, was, whole) = left_known x.input x.left stream h.front h.taken at in
+      h.has_read stream rest at (kept_left x.left left all rest was keeps now);
   follows = h.follows;
 }
 
 -- ---- it reads on in its next message
 
-abbrev pub reads_on : Sitting → Option (List ℕ) → Option (List ℕ) → Sitting
-reads_on x left reader = record x { left = left; reader = reader; waited = x.waited + 1 }
+abbrev pub reads_on : Sitting → Option (List ℕ) → Option (List ℕ) → ℕ → Sitting
+reads_on x left reader part = record x { left = left; reader = reader; waited = x.waited + 1; part = part }
 
-pub read_on_sits : (x : Sitting) (left reader : Option (List ℕ)) (t : Turn) (turns : List Turn) (most : ℕ) → t.most ≡ Some most → ((bytes : List ℕ) → x.left ≡ Some bytes → NeedsMore most bytes)
-    → t.moments ≡ [] → t.acts ≡ [] → Keeps x.left left → Heard x turns → Heard (reads_on x left reader) (turns ++ t ∷ [])
-read_on_sits x left reader t turns most bound needs told acted keeps h =
+-- more of the next message is needed, behind what was kept of it
+abbrev pub Needs : Option (List ℕ) → ℕ → ℕ → ℕ → Type 0
+Needs left part most part' = (rest : List ℕ) (kept : ℕ) → left ≡ Some rest → kept ≤ part → (kept' : ℕ) × (kept' ≤ part') × NeedsMore (kept + most) kept' rest
+
+pub read_on_sits : (x : Sitting) (left reader : Option (List ℕ)) (part : ℕ) (t : Turn) (turns : List Turn) (most : ℕ) → t.most ≡ Some most → Needs x.left x.part most part
+    → t.moments ≡ [] → t.acts ≡ [] → Keeps x.left left → Heard x turns → Heard (reads_on x left reader part) (turns ++ t ∷ [])
+read_on_sits x left reader part t turns most bound needs told acted keeps h =
     let same : acts_in (turns ++ t ∷ []) ≡ acts_in turns = acts_more turns t ∙ ap (λ (l : List Act). acts_in turns ++ l) acted ∙ append-nil (acts_in turns) in
     let none : moments_in (turns ++ t ∷ []) ≡ moments_in turns = moments_more turns t ∙ ap (λ (l : List ℕ). moments_in turns ++ l) told ∙ append-nil (moments_in turns) in
     record {
@@ -242,9 +266,13 @@ read_on_sits x left reader t turns most bound needs told acted keeps h =
       tied = none ∙ h.tied ∙ ap nows (sym same);
       behind = λ stream rest later there.
           behind_by (h.front ++ stream) (h.front ++ stream) (acts_in turns ++ later) (acts_in (turns ++ t ∷ []) ++ later) rest refl (ap (λ (l : List Act). l ++ later) (sym same)) (h.behind stream rest later there);
-      read_on =
-          let behind : (stream : List ℕ) → IsBehind (h.front ++ stream) (acts_in turns) stream = λ stream. subst (λ l. IsBehind (h.front ++ stream) l stream) (append-nil (acts_in turns)) (h.behind stream stream [] refl) in
-          read_all_more x.input [] turns t h.read_on (λ none. (most, bound, needs_behind most (acts_in turns) x.input x.left h.front h.taken behind needs));
+      bounded = all_more HasBound turns t h.bounded (λ _ none. none_is most (sym none ∙ bound));
+      has_read = λ stream rest at now.
+          let (all, was, whole) = left_known x.input x.left stream h.front h.taken at in
+          let is = kept_left x.left left all rest was keeps now in
+          let (kept, within, read) = h.has_read stream rest at is in
+          let (next, fits, more) = needs rest kept is within in
+          (next, fits, said.then_read_on turns rest kept next most t read acted bound more);
       follows = λ n m stream later out e gave_up is sp.
           let one = said.reads_on n stream t later out e gave_up told acted sp in
           speaks_by m (h.front ++ stream) (h.front ++ stream) (turns ++ (t ∷ later)) ((turns ++ t ∷ []) ++ later) (h.text ++ out) (h.text ++ out) e gave_up
@@ -253,15 +281,15 @@ read_on_sits x left reader t turns most bound needs told acted keeps h =
 
 -- ---- its next message is answered
 
-abbrev pub answered : Sitting → Option (List ℕ) → Option (List ℕ) → Option (List ℕ) → Sitting
-answered x left reader written = record x { left = left; reader = reader; written = written; served = x.served + 1 }
+abbrev pub answered : Sitting → Option (List ℕ) → Option (List ℕ) → Option (List ℕ) → ℕ → Sitting
+answered x left reader written part = record x { left = left; reader = reader; written = written; served = x.served + 1; part = part }
 
-module _ {C K : Type 0} {gives : C → ℕ → C → Type 0} {k : Ghosts K} (x : Sitting) (left reader written : Option (List ℕ)) (clock clock' : C) (keeper keeper' : K) (s after : State) where
+module _ {C K : Type 0} {gives : C → ℕ → C → Type 0} {k : Ghosts K} (x : Sitting) (left reader written : Option (List ℕ)) (part : ℕ) (clock clock' : C) (keeper keeper' : K) (s after : State) where
   unfoldable pub act_of : Goes gives x.left left x.written written clock clock' k keeper keeper' s after → Act
   act_of g = record { before = s; request = g.request; now = g.moment; reply = g.answers.reply; after = after }
 
   pub answered_sits : (g : Goes gives x.left left x.written written clock clock' k keeper keeper' s after) (t : Turn) → t.moments ≡ g.moment ∷ [] → t.acts ≡ act_of g ∷ []
-      → (turns : List Turn) → x.served + 1 ≤ most_messages → Heard x turns → Heard (answered x left reader written) (turns ++ t ∷ [])
+      → (turns : List Turn) → x.served + 1 ≤ most_messages → Heard x turns → Heard (answered x left reader written part) (turns ++ t ∷ [])
   unfolding act_of
   answered_sits g t told acted turns few h = record {
     front = h.front ++ g.front;
@@ -280,7 +308,12 @@ module _ {C K : Type 0} {gives : C → ℕ → C → Type 0} {k : Ghosts K} (x :
         (sym (append_assoc h.front g.front stream))
         (sym (append_assoc (acts_in turns) (act_of g ∷ []) later) ∙ ap (λ (l : List Act). l ++ later) (ap (λ (l : List Act). acts_in turns ++ l) (sym acted) ∙ sym (acts_more turns t)))
         (h.behind (g.front ++ stream) rest (act_of g ∷ later) one);
-    read_on = read_all_more x.input [] turns t h.read_on (λ none. let one : act_of g ∷ [] ≡ [] = sym acted ∙ none in absurd cc);
+    bounded = all_more HasBound turns t h.bounded (λ none. let one : act_of g ∷ [] ≡ [] = sym acted ∙ none in absurd cc);
+    has_read = λ stream rest at now.
+        let (all, was, whole) = left_known x.input x.left stream h.front h.taken at in
+        let (kept, within, read) = h.has_read stream all at was in
+        let cut : all ≡ g.front ++ rest = subst (λ o. Consumes (Some all) o g.front) now (subst (λ o. Consumes o left g.front) was g.taken) in
+        (0, omega arith, said.then_answered turns all rest kept t (act_of g) read acted (subst (λ (l : List ℕ). Next l (frame.Message g.request) rest) (sym cut) (g.message rest)));
     follows = λ n m stream later out e gave_up is sp.
         let a = act_of g in
         let one = said.goes_on n (g.front ++ stream) stream t a later out e gave_up told acted (g.message stream) sp in
@@ -294,8 +327,8 @@ module _ {C K : Type 0} {gives : C → ℕ → C → Type 0} {k : Ghosts K} (x :
 
 -- ---- the connection ends
 
-abbrev pub closed : Sitting → Option (List ℕ) → Option (List ℕ) → Option (List ℕ) → SessionEnd → Bool → Option Lost → Sitting
-closed x left reader written e gave_up lost = record x { left = left; reader = reader; written = written; end = Some e; gave_up = gave_up; lost = lost }
+abbrev pub closed : Sitting → Option (List ℕ) → Option (List ℕ) → Option (List ℕ) → ℕ → SessionEnd → Bool → Option Lost → Sitting
+closed x left reader written part e gave_up lost = record x { left = left; reader = reader; written = written; part = part; end = Some e; gave_up = gave_up; lost = lost }
 
 -- A message was given up in a turn.
 pub record IsLostIn (stream : List ℕ) (gave_up : Bool) (t : Turn) (r : Request) (now : ℕ) : Type 0 where
@@ -304,12 +337,12 @@ pub record IsLostIn (stream : List ℕ) (gave_up : Bool) (t : Turn) (r : Request
   pub message : Next stream (frame.Message r) more
   pub told : t.moments ≡ now ∷ []
 
-pub closed_sits : (x : Sitting) (left reader written : Option (List ℕ)) (e : SessionEnd) (gave_up : Bool) (lost : Option Lost) (n : ℕ) (stream answers : List ℕ) (t : Turn) (turns : List Turn)
+pub closed_sits : (x : Sitting) (left reader written : Option (List ℕ)) (part : ℕ) (e : SessionEnd) (gave_up : Bool) (lost : Option Lost) (n : ℕ) (stream answers : List ℕ) (t : Turn) (turns : List Turn)
     → n + x.served ≡ most_messages → IsStream gave_up e x.left reader stream → Appends x.written written answers
     → (last : Speaks n stream t.acts t.moments answers (Some e) gave_up) → AnswersNone last → ((r : Request) (now : ℕ) → IsLost lost r now → IsLostIn stream gave_up t r now)
     → (gave_up ≡ true → t.acts ≡ []) → (gave_up ≡ true → HasBegunMessage stream)
-    → Heard x turns → Closed (closed x left reader written e gave_up lost) e (turns ++ t ∷ [])
-closed_sits x left reader written e gave_up lost n stream answers t turns sum read wrote last none given unacted begun h = record {
+    → Heard x turns → Closed (closed x left reader written part e gave_up lost) e (turns ++ t ∷ [])
+closed_sits x left reader written part e gave_up lost n stream answers t turns sum read wrote last none given unacted begun h = record {
   stream = h.front ++ stream;
   answers = h.text ++ answers;
   read = stream_more gave_up e x.input x.left reader h.front stream h.taken read;
@@ -326,7 +359,7 @@ closed_sits x left reader written e gave_up lost n stream answers t turns sum re
         told = moments_more turns t ∙ ap (λ (l : List ℕ). moments_in turns ++ l) g.told ∙ ap (λ (l : List ℕ). l ++ now ∷ []) (h.tied ∙ ap nows (sym (append-nil (acts_in turns)) ∙ same g.marked));
       };
   begun = λ is. (stream, there is, begun is);
-  read_on = (turns, t, refl, h.read_on);
+  read_on = (turns, t, refl, reads_through x turns h);
 }
   where
     same : gave_up ≡ true → acts_in turns ++ [] ≡ acts_in (turns ++ t ∷ [])

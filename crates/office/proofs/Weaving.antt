@@ -14,7 +14,7 @@ use Rattle.wire.specs.Framing.{Next}
 use Rattle.wire.specs.Framing as frame
 use Rattle.office.specs.Connections.{Serves, TellsMoments}
 use Rattle.office.specs.Crashes.{LastsThrough, Survives, never_changed}
-use Rattle.office.specs.Interleaved.{AnswersNone, AreSpoken, AreTied, GaveUpWithin, GaveUpWithinMessages, HasGivenUp, HaveGivenUp, Interleaved, NeedsMore, ReadOn, SpeakInTurns, Speaks, SpeaksInTurns, Thread, Turn, acts_in, moments_in, own_acts, own_moments, own_turns}
+use Rattle.office.specs.Interleaved.{AnswersNone, AreSpoken, AreTied, GaveUpWithin, GaveUpWithinMessages, HasGivenUp, HaveGivenUp, Interleaved, ReadOn, SpeakInTurns, Speaks, SpeaksInTurns, Thread, Turn, acts_in, moments_in, own_acts, own_moments, own_turns}
 use Rattle.office.specs.Interleaved as said
 use Rattle.office.specs.Premise.{HoldsUp}
 use Rattle.office.specs.Repeats.{Act, Acts, text_of}
@@ -31,7 +31,7 @@ use Rattle.office.proofs.RunSoFar.{told_more}
 use Rattle.office.proofs.SessionSteps.{few_moments}
 use Rattle.office.proofs.Unstaged.{rose_before, rose_later}
 use Rattle.office.proofs.RunTurns.{acts_joined, less_is_not, none_whole, same_is, speaks_of, tied_of}
-use Rattle.office.proofs.Sitting.{IsLost, IsLostIn, Lost, Sitting, Sits, SitsSo, IsFirst, act_of, acts_more, moments_more, answered, answered_sits, closed, closed_sits, first_sits, gathered, gathered_sits, open_sits, sent_on, sent_sits, sits_open, reads_on, read_on_sits}
+use Rattle.office.proofs.Sitting.{IsLost, IsLostIn, Lost, Needs, Sitting, Sits, SitsSo, IsFirst, act_of, acts_more, moments_more, answered, answered_sits, closed, closed_sits, first_sits, gathered, gathered_sits, open_sits, sent_on, sent_sits, sits_open, reads_on, read_on_sits, reads_through}
 
 -- ---- one more turn at the end
 
@@ -309,11 +309,11 @@ module _ {C K : Type 0} (gives : C → ℕ → C → Type 0) (k : Ghosts K) wher
       unmarked = subst (λ (y : Sitting). y.gave_up ≡ false) at (heard_at f.turns 0 p d xs lt (subst (λ (y : Sitting). y.end ≡ None) (sym at) is_open) f.sit)
 
       -- it reads on in its next message
-      pub read_on_more : (left reader : Option (List ℕ)) (keeper'' : K) (most : ℕ) → ((bytes : List ℕ) → x.left ≡ Some bytes → NeedsMore most bytes) → Keeps x.left left → HoldsUp k false keeper' keeper'' → LastsThrough k keeper' keeper'' mid mid
-          → SoFar gives k (set xs p (reads_on x left reader)) (whose ++ record { whose = p; most = Some most } ∷ []) clock clock' keeper keeper'' s mid
-      read_on_more left reader keeper'' most needs keeps held lasts =
-          moves_more (Some most) xs p d (reads_on x left reader) clock clock' clock' keeper keeper' keeper'' s mid mid lt f
-          (subst (λ (y : Sitting). Moves (Some most) y (reads_on x left reader) clock' clock' keeper' keeper'' mid mid) (sym at) (record {
+      pub read_on_more : (left reader : Option (List ℕ)) (part : ℕ) (keeper'' : K) (most : ℕ) → Needs x.left x.part most part → Keeps x.left left → HoldsUp k false keeper' keeper'' → LastsThrough k keeper' keeper'' mid mid
+          → SoFar gives k (set xs p (reads_on x left reader part)) (whose ++ record { whose = p; most = Some most } ∷ []) clock clock' keeper keeper'' s mid
+      read_on_more left reader part keeper'' most needs keeps held lasts =
+          moves_more (Some most) xs p d (reads_on x left reader part) clock clock' clock' keeper keeper' keeper'' s mid mid lt f
+          (subst (λ (y : Sitting). Moves (Some most) y (reads_on x left reader part) clock' clock' keeper' keeper'' mid mid) (sym at) (record {
             acts = [];
             moments = [];
             told = refl;
@@ -321,52 +321,52 @@ module _ {C K : Type 0} (gives : C → ℕ → C → Type 0) (k : Ghosts K) wher
             one_moment = omega arith;
             took = omega arith;
             by_rules = refl;
-            moves = λ t bound told acted before h. sits_open (reads_on x left reader) (before ++ t ∷ []) is_open
-                (read_on_sits x left reader t before most bound needs told acted keeps (open_sits x before is_open h));
+            moves = λ t bound told acted before h. sits_open (reads_on x left reader part) (before ++ t ∷ []) is_open
+                (read_on_sits x left reader part t before most bound needs told acted keeps (open_sits x before is_open h));
             marked = unmarked;
             kept = λ r now h. h;
             never_less = held_least k false keeper' keeper'' held;
-            rose = unmarked_rose (k.faults keeper') (k.faults keeper'') (reads_on x left reader) unmarked;
+            rose = unmarked_rose (k.faults keeper') (k.faults keeper'') (reads_on x left reader part) unmarked;
             held = λ _. held;
             lasts = λ _. lasts;
             survives = survives_through lasts;
           }))
 
       -- its next message is answered
-      pub answered_more : (most : Option ℕ) (left reader written : Option (List ℕ)) (clock'' : C) (keeper'' : K) (after : State) → x.served + 1 ≤ most_messages
+      pub answered_more : (most : Option ℕ) (left reader written : Option (List ℕ)) (part : ℕ) (clock'' : C) (keeper'' : K) (after : State) → x.served + 1 ≤ most_messages
           → Goes gives x.left left x.written written clock' clock'' k keeper' keeper'' mid after
-          → SoFar gives k (set xs p (answered x left reader written)) (whose ++ record { whose = p; most = most } ∷ []) clock clock'' keeper keeper'' s after
+          → SoFar gives k (set xs p (answered x left reader written part)) (whose ++ record { whose = p; most = most } ∷ []) clock clock'' keeper keeper'' s after
       unfolding act_of
-      answered_more most left reader written clock'' keeper'' after few g =
-          moves_more most xs p d (answered x left reader written) clock clock' clock'' keeper keeper' keeper'' s mid after lt f
-          (subst (λ (y : Sitting). Moves most y (answered x left reader written) clock' clock'' keeper' keeper'' mid after) (sym at) (record {
-            acts = act_of x left reader written clock' clock'' keeper' keeper'' mid after g ∷ [];
+      answered_more most left reader written part clock'' keeper'' after few g =
+          moves_more most xs p d (answered x left reader written part) clock clock' clock'' keeper keeper' keeper'' s mid after lt f
+          (subst (λ (y : Sitting). Moves most y (answered x left reader written part) clock' clock'' keeper' keeper'' mid after) (sym at) (record {
+            acts = act_of x left reader written part clock' clock'' keeper' keeper'' mid after g ∷ [];
             moments = g.moment ∷ [];
             told = (clock'', g.told, refl);
             tied = inl refl;
             one_moment = omega arith;
             took = omega arith;
             by_rules = (refl, g.answers.replies, refl);
-            moves = λ t bound told acted before h. sits_open (answered x left reader written) (before ++ t ∷ []) is_open
-                (answered_sits x left reader written clock' clock'' keeper' keeper'' mid after g t told acted before few (open_sits x before is_open h));
+            moves = λ t bound told acted before h. sits_open (answered x left reader written part) (before ++ t ∷ []) is_open
+                (answered_sits x left reader written part clock' clock'' keeper' keeper'' mid after g t told acted before few (open_sits x before is_open h));
             marked = unmarked;
             kept = λ r now h. h;
             never_less = held_least k false keeper' keeper'' g.held;
-            rose = unmarked_rose (k.faults keeper') (k.faults keeper'') (answered x left reader written) unmarked;
+            rose = unmarked_rose (k.faults keeper') (k.faults keeper'') (answered x left reader written part) unmarked;
             held = λ _. g.held;
             lasts = λ _. g.lasts;
             survives = survives_through g.lasts;
           }))
 
       -- the connection ends
-      pub closed_more : (most : Option ℕ) (left reader written : Option (List ℕ)) (clock'' : C) (keeper'' : K) (after : State) (n : ℕ) (e : SessionEnd) → n + x.served ≡ most_messages
+      pub closed_more : (most : Option ℕ) (left reader written : Option (List ℕ)) (part : ℕ) (clock'' : C) (keeper'' : K) (after : State) (n : ℕ) (e : SessionEnd) → n + x.served ≡ most_messages
           → (v : Serves n gives x.left reader x.written written clock' clock'' k keeper' keeper'' mid after e) → EndsAtOnce v.session → (v.gave_up ≡ true → HasBegunMessage v.stream)
-          → SoFar gives k (set xs p (closed x left reader written e v.gave_up (lost_of v.session))) (whose ++ record { whose = p; most = most } ∷ []) clock clock'' keeper keeper'' s after
-      closed_more most left reader written clock'' keeper'' after n e sum v once begun =
+          → SoFar gives k (set xs p (closed x left reader written part e v.gave_up (lost_of v.session))) (whose ++ record { whose = p; most = most } ∷ []) clock clock'' keeper keeper'' s after
+      closed_more most left reader written part clock'' keeper'' after n e sum v once begun =
           let y = last_acts n v.stream mid v.moments v.answers e v.gave_up after v.session once in
           let speaks = speaks_of n v.stream mid v.moments v.answers e v.gave_up y.acts after y.are in
           let none = none_whole n v.stream mid v.moments v.answers e v.gave_up y.acts after y.are y.none in
-          let new = closed x left reader written e v.gave_up (lost_of v.session) in
+          let new = closed x left reader written part e v.gave_up (lost_of v.session) in
           moves_more most xs p d new clock clock' clock'' keeper keeper' keeper'' s mid after lt f
           (subst (λ (z : Sitting). Moves most z new clock' clock'' keeper' keeper'' mid after) (sym at) (record {
             acts = y.acts;
@@ -378,7 +378,7 @@ module _ {C K : Type 0} (gives : C → ℕ → C → Type 0) (k : Ghosts K) wher
             by_rules = y.by_rules;
             moves = λ t bound told acted before h.
                 let last = last_turn n v.stream t y.acts v.moments v.answers e v.gave_up told acted speaks none in
-                closed_sits x left reader written e v.gave_up (lost_of v.session) n v.stream v.answers t before sum v.read v.written last.0 last.1 (lost_in v.session t told)
+                closed_sits x left reader written part e v.gave_up (lost_of v.session) n v.stream v.answers t before sum v.read v.written last.0 last.1 (lost_in v.session t told)
                 (λ given. acted ∙ none_acted n v.stream mid v.moments v.answers e v.gave_up after v.session once given) begun (open_sits x before is_open h);
             marked = unmarked;
             kept = λ r now h. absurd (subst (λ (o : Option Lost). IsLost o r now) unlost h);
@@ -389,7 +389,7 @@ module _ {C K : Type 0} (gives : C → ℕ → C → Type 0) (k : Ghosts K) wher
             survives = survives_more (is_lost v.session once) v.survives;
           }))
         where
-          ends_so : LastsAt (closed x left reader written e v.gave_up (lost_of v.session)) → (v.gave_up ≡ false) ⊎ (e ≡ ReadFault)
+          ends_so : LastsAt (closed x left reader written part e v.gave_up (lost_of v.session)) → (v.gave_up ≡ false) ⊎ (e ≡ ReadFault)
           ends_so (inl is) = inl is
           ends_so (inr is) = inr (some_end e ReadFault is)
 
@@ -548,7 +548,7 @@ thread_at x own None is h =
           (subst (λ z. SpeaksInTurns most_messages (h.front ++ []) (own ++ []) z None false) (append-nil h.text) all)));
       lost = λ r now is_lost. absurd (subst (λ (o : Option Lost). IsLost o r now) h.unlost is_lost);
       begun = λ given. let marked = h.marked in absurd (cc (marked, given));
-      read_on = subst (λ e. ReadOn e x.input own) (sym is) h.read_on;
+      read_on = subst (λ e. ReadOn e x.input own) (sym is) (reads_through x own h);
     }
 thread_at x own (Some e) is h = record {
   thread = record { stream = h.stream; answers = h.answers; end = x.end; gave_up = x.gave_up };

@@ -57,7 +57,8 @@ pub record ServesCrowd {C K R W : Type 0} (gives : C → ℕ → C → Type 0) (
   -- Each turn of a connection answers exactly one message in full, or only reads on and tells no moment, except
   -- the turn in which it ends. That one is its last and answers none in full.
   pub by_turns : SpeakInTurns run.turns 0 threads
-  -- A turn that only reads on read as many bytes as the crowd let it, and those that came are no whole message.
+  -- A turn that only reads on read as many bytes as the crowd let it, and those that came of the message are no whole
+  -- message.
   pub read_on : HaveReadOn remaining run.turns 0 came threads
   -- A connection gave up only within a message that had begun: never before bytes of it were read.
   pub begun : GaveUpWithinMessages run.turns 0 threads

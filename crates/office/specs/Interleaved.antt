@@ -1,11 +1,11 @@
 -- Connections that are open at once. Each turn serves messages of one of them.
-use Rattle.std.specs.Prelude.{◌≡◌, ◌<◌, ◌≤◌, ◌+◌, ◌⊎◌, ℕ, suc, Bool, true, false, cond, nat_eq, List, [], ◌∷◌, ◌++◌, length, map, Option, Some, None, IfSome, ⊤}
+use Rattle.std.specs.Prelude.{◌≡◌, ◌≢◌, ◌<◌, ◌≤◌, ◌+◌, ◌⊎◌, ℕ, suc, Bool, true, false, cond, nat_eq, List, [], ◌∷◌, ◌++◌, length, map, Option, Some, None, IfSome, ⊤}
 use Rattle.std.specs.List.{AllByRecursion, count_by, filter}
 use Rattle.sigtext.specs.Bytes.{IsBeginning}
 use Rattle.sigtext.specs.Request.{Request}
 use Rattle.boxes.specs.State.{State}
 use Rattle.wire.specs.Crowds.{GivenTurn}
-use Rattle.wire.specs.Feeding.{Awaits}
+use Rattle.wire.specs.Feeding.{Awaits, AwaitsHead}
 use Rattle.wire.specs.Framing.{Next}
 use Rattle.wire.specs.Framing as frame
 use Rattle.sigtext.specs.Readable.{IsReadable}
@@ -124,26 +124,37 @@ abbrev pub IsBehind : List ℕ → List Act → List ℕ → Type 0
 IsBehind stream [] rest = rest ≡ stream
 IsBehind stream (a ∷ acts) rest = (more : List ℕ) × Next stream (frame.Message a.request) more × IsBehind more acts rest
 
--- At least so many bytes of the next message had come, and they are no whole message. rest: the stream from that
--- message on.
-pub record NeedsMore (most : ℕ) (rest : List ℕ) : Type 0 where
+-- What a turn that only reads on had of the next message: at least so many bytes, which are no whole message. The next
+-- turn keeps so many of them and reads behind them: none while the head is not whole, and then all. rest: the stream
+-- from that message on.
+pub record NeedsMore (least kept : ℕ) (rest : List ℕ) : Type 0 where
   pub came : List ℕ
   pub begins : IsBeginning came rest
-  pub enough : most ≤ length came
+  pub enough : least ≤ length came
   pub awaits : ∥ Awaits came ∥₁
+  pub keeps : ((kept ≡ 0) × AwaitsHead came) ⊎ (kept ≡ length came)
 
--- Each of these turns that answers nothing read all the bytes that it might, and more were needed. input: all that
--- the connection sent, if it is known; acts: what was done for the connection before these turns.
-abbrev pub ReadAll : Option (List ℕ) → List Act → List Turn → Type 0
-ReadAll input acts [] = ⊤
-ReadAll input acts (t ∷ turns) =
-    (t.acts ≡ [] → (most : ℕ) × (t.most ≡ Some most) × IfSome input (λ stream. (rest : List ℕ) × IsBehind stream acts rest × NeedsMore most rest))
-    × ReadAll input (acts ++ t.acts) turns
+-- After these turns of a connection this is left of its stream, and so many bytes of the next message are kept. A turn
+-- that answers nothing read as many bytes as it might, behind those that were kept.
+pub data HasRead (stream : List ℕ) : List Turn → List ℕ → ℕ → Type 0 where
+  no_turn : HasRead stream [] stream 0
+  then_answered : (turns : List Turn) (rest more : List ℕ) (kept : ℕ) (t : Turn) (a : Act) → HasRead stream turns rest kept
+      → t.acts ≡ a ∷ [] → Next rest (frame.Message a.request) more → HasRead stream (turns ++ t ∷ []) more 0
+  then_read_on : (turns : List Turn) (rest : List ℕ) (kept kept' most : ℕ) (t : Turn) → HasRead stream turns rest kept
+      → t.acts ≡ [] → t.most ≡ Some most → NeedsMore (kept + most) kept' rest → HasRead stream (turns ++ t ∷ []) rest kept'
 
--- The turns of a connection that only read on did so. The last turn of a connection that ended is none of them.
+-- a turn that answers nothing has a bound on what it reads
+abbrev pub HasBound : Turn → Type 0
+HasBound t = t.acts ≡ [] → t.most ≢ None
+
+-- These turns of a connection, which did not end it, read what they might. input: its stream, if that is known.
+abbrev pub ReadsThrough : Option (List ℕ) → List Turn → Type 0
+ReadsThrough input turns = AllByRecursion HasBound turns × IfSome input (λ stream. (rest : List ℕ) × (kept : ℕ) × HasRead stream turns rest kept)
+
+-- the same for all turns of a connection, the last of which may have ended it
 abbrev pub ReadOn : Option SessionEnd → Option (List ℕ) → List Turn → Type 0
-ReadOn None input turns = ReadAll input [] turns
-ReadOn (Some e) input turns = (before : List Turn) × (last : Turn) × (turns ≡ before ++ last ∷ []) × ReadAll input [] before
+ReadOn None input turns = ReadsThrough input turns
+ReadOn (Some e) input turns = (before : List Turn) × (last : Turn) × (turns ≡ before ++ last ∷ []) × ReadsThrough input before
 
 -- A connection gave up this request at this moment: its message was the first behind those of the acts, and its
 -- moment was told after theirs. stream, gave_up, acts and moments are those of the connection.

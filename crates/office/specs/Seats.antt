@@ -2,13 +2,17 @@
 use Rattle.std.specs.Prelude.{◌≡◌, ◌≢◌, ◌≤◌, ◌+◌, ◌⊎◌, ℕ, suc, Bool, true, false, cond, is_some, List, [], ◌∷◌, length, Option, Some, None, ⊤}
 use Rattle.std.specs.Io.KnownBytes.{Appends, Consumes, Keeps}
 use Rattle.std.specs.List.{AllByRecursion}
+use Rattle.std.specs.Option.{ForSome}
 use Rattle.sigtext.specs.Counts.{Rose}
 use Rattle.boxes.specs.State.{State}
 use Rattle.boxes.specs.declared.keep.Keeper.{Ghosts}
-use Rattle.wire.specs.Feeding.{Awaits}
-use Rattle.wire.specs.Seats.{came_of, left_of}
+use Rattle.wire.specs.Feeding.{Awaits, AwaitsHead}
+use Rattle.wire.specs.Feeds.{ahead_of}
+use Rattle.wire.specs.Seats.{came_behind, left_of}
 use Rattle.wire.specs.Waiting.{TakesAll}
 use Rattle.wire.specs.declared.seat.Seat.{Seat}
+use Rattle.wire.specs.declared.standing.Standing.{Standing}
+use Rattle.wire.specs.declared.underway.Underway.{Underway}
 use Rattle.wire.specs.declared.session.SessionEnd.{SessionEnd}
 use Rattle.wire.specs.declared.session.SessionEnd.TheVariants.{ReadFault}
 use Rattle.office.specs.Connections.{IsStream, Serves}
@@ -88,13 +92,19 @@ abbrev pub HaveTurns : {R W : Type 0} → List Turn → ℕ → List (Seat R W) 
 HaveTurns turns i [] = ⊤
 HaveTurns turns i (seat ∷ seats) = (turns_by i turns ≡ turns_of seat) × HaveTurns turns (suc i) seats
 
--- If the turn only read on, it read all the bytes that it might, and those that came of the message are no whole
--- message. most: how many it might read, without end if there is no number.
+-- More bytes of the message are needed. None of a head is taken that has not come whole, and of a body all that came.
+pub record LacksRest (underway : Option Underway) (standing : Standing) : Type 0 where
+  pub awaits : ∥ Awaits (came_behind underway standing) ∥₁
+  pub head : underway ≡ None → AwaitsHead (came_behind underway standing)
+  pub body : ForSome underway (λ _. ahead_of standing ≡ [])
+
+-- If the turn only read on, it read all the bytes that it might, and more of the message are needed. most: how many it
+-- might read, without end if there is no number.
 pub record ReadsInFull {R W : Type 0} (remaining : R → Option (List ℕ)) (most : Option ℕ) (old new : Seat R W) : Type 0 where
   pub all : (new.waited ≢ old.waited) → TakesAll most (remaining old.reader.inner) (remaining new.reader.inner)
-  pub awaits : (new.waited ≢ old.waited) → ∥ Awaits (came_of new) ∥₁
+  pub lacks : (new.waited ≢ old.waited) → LacksRest new.underway new.standing
 
--- The turns that only read on, of each connection from number i on, as it came: they read all that they might.
+-- the turns of each connection, from number i on, which came like this, read what they might
 abbrev pub HaveReadOn : {R W : Type 0} → (R → Option (List ℕ)) → List Turn → ℕ → List (Seat R W) → List Thread → Type 0
 HaveReadOn remaining turns i [] [] = ⊤
 HaveReadOn remaining turns i (seat ∷ seats) (c ∷ cs) = ReadOn c.end (left_of remaining seat) (own_turns i turns) × HaveReadOn remaining turns (suc i) seats cs

@@ -10,7 +10,7 @@ use Rattle.sigtext.specs.Request.{Request}
 use Rattle.boxes.specs.State.{State}
 use Rattle.boxes.specs.declared.keep.Keeper.{Ghosts}
 use Rattle.wire.specs.Framing.{Next, Message, request_of}
-use Rattle.wire.specs.Feeding.{Awaits}
+use Rattle.wire.specs.Feeding.{Awaits, AwaitsHead}
 use Rattle.wire.specs.Feeds.{TakesAllIn, given_of, left, place_of, reader_of, waits_in, whole_left}
 use Rattle.wire.specs.Underways.{IsBegun}
 use Rattle.wire.specs.Waiting.{IsFree}
@@ -116,16 +116,15 @@ ReadsOn remaining known feed block (Some b) =
     (b.len ≤ most_head) × IsBegun (take b.len block) b.size b.kept (place_of feed) (given_of feed)
     × Keeps known (prepend_known (take b.len block) (whole_left remaining feed))
 
--- The bytes that came of a message are no whole message: this head, if it has begun, what was given of its body, and
--- the bytes that wait.
+-- The bytes that came of a message are no whole message: this head, and what was given of its body. No others wait.
 abbrev pub AwaitsMore : {R : Type 0} → List ℕ → Feed R → Type 0
-AwaitsMore head feed = ∥ Awaits (head ++ (given_of feed ++ waits_in feed)) ∥₁
+AwaitsMore head feed = (waits_in feed ≡ []) × ∥ Awaits (head ++ (given_of feed ++ waits_in feed)) ∥₁
 
 -- A feed that waits stands between two messages, or within the body of the one that has begun, whose head is at
 -- the front of the block. More bytes are needed.
 abbrev pub WaitsBehind : {R : Type 0} → Feed R → List ℕ → Stepped → Type 0
 WaitsBehind feed block (stepped.Done e) = ⊤
-WaitsBehind feed block (stepped.Waits None) = (place_of feed ≡ place.Between) × (given_of feed ≡ []) × AwaitsMore [] feed
+WaitsBehind feed block (stepped.Waits None) = (place_of feed ≡ place.Between) × (given_of feed ≡ []) × AwaitsHead (waits_in feed)
 WaitsBehind feed block (stepped.Waits (Some b)) =
     (b.len ≤ most_head) × IsBegun (take b.len block) b.size b.kept (place_of feed) (given_of feed) × AwaitsMore (take b.len block) feed
 

@@ -4,14 +4,14 @@ use Rattle.std.specs.Option.{ForSome}
 use Rattle.std.specs.Io.KnownBytes.{Keeps}
 use Rattle.boxes.specs.State.{State}
 use Rattle.boxes.specs.declared.keep.Keeper.{Ghosts}
-use Rattle.wire.specs.Feeding.{Awaits}
 use Rattle.wire.specs.Feeds.{given_before, stood_at}
-use Rattle.wire.specs.Seats.{came_behind, left_behind}
+use Rattle.wire.specs.Seats.{left_behind}
 use Rattle.wire.specs.Underways.{IsUnderway}
 use Rattle.wire.specs.declared.counted.Counted.{Counted}
 use Rattle.wire.specs.declared.feed.Place.TheVariants as place
 use Rattle.wire.specs.declared.session.SessionEnd.{SessionEnd}
 use Rattle.office.specs.Connections.{MayGiveUp}
+use Rattle.office.specs.Seats.{LacksRest}
 use Rattle.office.specs.Stepping.{StandsBy, Steps, TellsStep}
 use Rattle.office.specs.declared.connections.turning.Aside.{Aside}
 use Rattle.office.specs.declared.connections.turning.Turn.{Turn}
@@ -35,7 +35,7 @@ StandsAside turn.Answered aside = (aside.underway ≡ None) × (stood_at aside.s
 StandsAside (turn.Ended e) aside = aside.underway ≡ None
 StandsAside turn.ReadOn aside =
     (aside.underway ≡ None → (stood_at aside.standing ≡ place.Between) × (given_before aside.standing ≡ [])) × ForSome aside.underway (λ u. IsUnderway u aside.standing)
-    × ∥ Awaits (came_behind aside.underway aside.standing) ∥₁
+    × LacksRest aside.underway aside.standing
 
 -- A message was answered or the connection ended, as by a step of a session. Or nothing was told or written, and
 -- no byte was lost.

@@ -48,15 +48,14 @@ impl<K: Keeper> Office<K> {
     ghost use Rattle.std.specs.Prelude.{◌≡◌, ◌≢◌, [], IsSomeAnd, None, Option, Some};
     ghost use Rattle.std.specs.Option.{ForSome};
     ghost use Rattle.boxes.specs.State.{State};
-    ghost use Rattle.wire.specs.Feeding.{Awaits};
     ghost use Rattle.wire.specs.Feeds.{given_before, stood_at};
-    ghost use Rattle.wire.specs.Seats.{came_of, left_behind};
+    ghost use Rattle.wire.specs.Seats.{left_behind};
     ghost use Rattle.wire.specs.Underways.{IsUnderway};
     ghost use Rattle.wire.specs.Waiting.{TakesAll};
     ghost use Rattle.wire.specs.Whole.{MayBegin};
     ghost use Rattle.office.specs.Connections.{MayGiveUp};
     ghost use Rattle.office.specs.Premise.{HoldsUnless, IsLeft, StaysUnstaged, WasKept};
-    ghost use Rattle.office.specs.Seats.{TakesTurn, TellsTurn};
+    ghost use Rattle.office.specs.Seats.{LacksRest, TakesTurn, TellsTurn};
     ghost use Rattle.office.specs.Turning.{MayEndGivingUp, StandsAside, TellsAside, TurnsTo};
 
     // Begins with the next message of a connection.
@@ -219,7 +218,8 @@ impl<K: Keeper> Office<K> {
     /// moment, the bytes written, the end and the state after are those of the next message of its session,
     /// whatever was done for other connections in between. A turn that only reads on tells no moment and writes
     /// nothing. It has read all the bytes that it may, and those that came are no whole message, so there is none if
-    /// bytes may be read without end. The connection is given up only within a message that has begun.
+    /// bytes may be read without end. All that came of a body is then taken. The connection is given up only within a
+    /// message that has begun.
     pub fn take_turn<R: Read, W: Write, C: Clock>(
         &mut self,
         seat: &mut Seat<R, W>,
@@ -237,7 +237,7 @@ impl<K: Keeper> Office<K> {
         ensures free { due.most ≡ None → seat.new.waited ≡ seat.old.waited }
         ensures all { (seat.new.waited ≢ seat.old.waited)
             → TakesAll due.most (R.remaining seat.old.reader.inner) (R.remaining seat.new.reader.inner) }
-        ensures awaits { (seat.new.waited ≢ seat.old.waited) → ∥ Awaits (came_of seat.new) ∥₁ }
+        ensures awaits { (seat.new.waited ≢ seat.old.waited) → LacksRest seat.new.underway seat.new.standing }
     {
         if seat.end().is_some() {
             return due.spare();

@@ -93,7 +93,7 @@ returns-in-Waits-Some-clause-stands g c = (
       begun_aside_as c.step-stepped.new.feed c.set_aside-standing.result.0 c.step-stepped.new.block c.in-Waits-Some.field-0-0 u (sym (ap (λ (w : Underway). w.text.value) same)) (sym (ap (λ (w : Underway). w.len) same))
       (sym (ap (λ (w : Underway). w.size) same)) (sym (ap (λ (w : Underway). w.kept) same)) c.set_aside-standing.ensures.place (sym c.set_aside-standing.ensures.given)
       (begun_there c.step-stepped.new.feed c.step-stepped.new.block c.in-Waits-Some.field-0 c.in-Waits-Some.field-0-0 c.in-Waits-Some.field-0-is c.in-Waits-Some.ensures.stands).1,
-  awaits_aside c.step-stepped.new.feed c.set_aside-standing.result.0 (take c.in-Waits-Some.field-0-0.len c.step-stepped.new.block) (sym c.set_aside-standing.ensures.given) (sym c.set_aside-standing.ensures.waiting)
+  awaits_aside c.step-stepped.new.feed c.set_aside-standing.result.0 _ (sym c.set_aside-standing.ensures.given) (sym c.set_aside-standing.ensures.waiting)
       (begun_there c.step-stepped.new.feed c.step-stepped.new.block c.in-Waits-Some.field-0 c.in-Waits-Some.field-0-0 c.in-Waits-Some.field-0-is c.in-Waits-Some.ensures.stands).2,
 )
 

@@ -44,7 +44,7 @@ pub returns-in-Waits-clause-stands : goal.returns-in-Waits-clause-stands
 returns-in-Waits-clause-stands g c =
     stands_begun c.set_aside-standing.result.0 c.in-Waits.underway
     (underway_aside c.resume-resumed.new.feed c.set_aside-standing.result.0 c.in-Waits.underway c.set_aside-standing.ensures.place (sym c.set_aside-standing.ensures.given) c.in-Waits.ensures.stands.0)
-    (awaits_aside c.resume-resumed.new.feed c.set_aside-standing.result.0 (head_of c.in-Waits.underway) (sym c.set_aside-standing.ensures.given) (sym c.set_aside-standing.ensures.waiting) c.in-Waits.ensures.stands.1)
+    (awaits_aside c.resume-resumed.new.feed c.set_aside-standing.result.0 c.in-Waits.underway (sym c.set_aside-standing.ensures.given) (sym c.set_aside-standing.ensures.waiting) c.in-Waits.ensures.stands.1)
 
 pub returns-in-Waits-clause-turns : goal.returns-in-Waits-clause-turns
 returns-in-Waits-clause-turns g c s kept =

@@ -5,7 +5,7 @@ use Rattle.wire.specs.declared.joining.Came.TheVariants as came
 use Rattle.wire.specs.Feeding.{a_head}
 use Rattle.office.proofs.SessionSteps.{brought_by, broke_off_by, ended_step, truncated_step, read_failed_step, closed_step, gave_up_reading_step, leaves_still}
 use Rattle.wire.proofs.Spending.{spent_all}
-use Rattle.office.proofs.BodyWaits.{awaits_a_head, stands_by}
+use Rattle.office.proofs.BodyWaits.{stands_by}
 use Rattle.office.proofs.KeeperCalls.{quiet_still}
 use Rattle.office.proofs.StepWaits.{all_after}
 use Rattle.office.proofs.office.Office.step.Goals as goal
@@ -76,7 +76,7 @@ returns-in-Err-Waits-clause-stands g c =
     let b = broke_off_by (place_of c.args.feed.now) (left g.R.Read.remaining c.args.feed.now) (left g.R.Read.remaining c.read_opening.new.feed) (g.R.Read.remaining (reader_of c.read_opening.new.feed).inner) (place_of c.read_opening.new.feed)
     c.in-Err-Waits.field-0 fault.Waits c.in-Err-Waits.field-0-is c.in-Err-Waits.ensures.fault in
     let none = c.read_opening.ensures.given in
-    (b.0, none, awaits_a_head c.read_opening.new.feed none (c.in-Err-Waits.ensures.waits c.in-Err-Waits.field-0-is))
+    (b.0, none, c.in-Err-Waits.ensures.waits c.in-Err-Waits.field-0-is)
 
 pub returns-in-Ok-Head-clause-all : goal.returns-in-Ok-Head-clause-all
 returns-in-Ok-Head-clause-all g c =

@@ -29,7 +29,7 @@ returns-clause-turns g c s kept =
       h.1,
       taken_by g.R.Read.remaining g.W.Write.contents c.args.due.most g.C.Clock.now_gives g.K.Keeper c.args.clock.now c.take_turn-spare.new.clock c.args.self.now.keeper c.take_turn-spare.new.self.keeper s h.0
           c.args.slot.now c.if-was_open.slot c.if-was_open.result c.in-Some.seat c.take_turn-spare.new.seat c.in-Some.is slot told h.2 c.take_turn-spare.ensures.faults
-          (record { all = c.take_turn-spare.ensures.all; awaits = c.take_turn-spare.ensures.awaits }),
+          (record { all = c.take_turn-spare.ensures.all; lacks = c.take_turn-spare.ensures.awaits }),
     )
 
 pub returns-clause-honest : goal.returns-clause-honest
