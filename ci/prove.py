@@ -5,9 +5,11 @@ checkout; older ones prove everything anew.
 The code of `rt` does the work, and its counts are the last line. Four things are different here:
 
 - `rt` allows each check more memory than it was ever seen to take, so few run in parallel. Here it is half as much.
-- The crates with the most work behind them come first, by the seconds in ci/seconds.txt. `rt` counts lines.
+- The programs that are tested come first, with the crates below them, and then the crates with the most work behind them, by the
+  seconds in ci/seconds.txt. `rt` counts lines. With `--built FILE`, that file is made once these programs are built, so that
+  their tests can begin.
 - Several processors take a quarter more time together than one takes alone. So a check has more than one only where no other
-  check could begin on them. It has all if everything that has not begun waits for it, also those on which a check is ending.
+  check could begin on them, or where all that these programs still need waits for it.
 - With `--program`, Rattle's own compiler builds the program, which stays in `crates/NAME/out`. It takes half as long as LLVM, whose
   program is a tenth faster. Without, both build it at the same time, and `rt` compares what both programs write.
 
@@ -18,6 +20,7 @@ for how long, and how many minutes are left. The output of `rt` goes to a file, 
 import argparse
 import concurrent.futures
 import contextlib
+import functools
 import heapq
 import os
 import pathlib
@@ -45,6 +48,8 @@ MORE_MEMORY = 0.6
 MOST_MEMORY = 0.85
 # A task that took less than this share of its seconds was taken over from an earlier run.
 WHOLE = 0.2
+# The programs whose tests take long.
+TESTED = ["drop", "rows"]
 # How often the line is written anew, in seconds, and the lines that are shown of a log that ends in a failure.
 EVERY, TAIL = 1, 40
 # What a task without work gives, by its kind; any other gives True. `rt` unpacks what its task for must-fail edits gives.
@@ -150,8 +155,8 @@ class Lanes:
     """Runs the tasks of `rt`: each once those that it waits for have ended, first those with the longest chain behind them, and as
     many as processors and memory allow."""
 
-    def __init__(self, tasks, pool):
-        self.tasks, self.pool = tasks, pool
+    def __init__(self, tasks, pool, built=None):
+        self.tasks, self.pool, self.built = tasks, pool, built
         self.all = self.free = RT.processors()
         self.memory = MOST_MEMORY * RT.free()
         self.left, self.running = [it for it in in_order(tasks) if tasks[it][1]], {}
@@ -182,25 +187,34 @@ class Lanes:
                 key, needs, jobs = self.running.pop(it)
                 self.free, self.memory = self.free + jobs, self.memory + needs
                 self.given[key] = it.result()
+                if self.built and key[0] in TESTED and all(self.given.get((name, "proof")) for name in TESTED):
+                    self.built.touch()
         return self.given
 
 
 def in_order(tasks):
-    """The tasks, those with the longest chain behind them first."""
+    """The tasks: first those for the programs that are tested, and of each kind those with the longest chain behind them first."""
     behind = {it: tasks[it][1] for it in tasks}
     for key in reversed(tasks):
         for it in tasks[key][0]:
             behind[it] = max(behind[it], tasks[it][1] + behind[key])
-    return sorted(tasks, key=lambda it: -behind[it])
+    return sorted(tasks, key=lambda it: (not is_for_programs(it), -behind[it]))
+
+
+def is_for_programs(key):
+    """Whether this task proves a program that is tested, or a crate below one."""
+    return key[1] == "proof" and key[0] in with_below(TESTED)
 
 
 def next_tasks(tasks, left, given, free, lanes):
     """The tasks to begin now on the free processors, each with how many of them it has. Each has one, and the first has those that
-    are left over, or all if all others wait for it."""
-    ready = [it for it in left if all(below in given for below in tasks[it][0])]
-    if free > 0 and len(ready) == 1 and those_behind(tasks, ready[0]).issuperset(left):
+    are left over. It has all if all others wait for it, and all but one if all others for the tested programs do."""
+    ready = [it for it in left if all(below in given for below in tasks[it][0])][:max(free, 0)]
+    behind = those_behind(tasks, ready[0]) if ready else set()
+    if ready and behind.issuperset(left):
         return [(ready[0], lanes)]
-    ready = ready[:max(free, 0)]
+    if ready and is_for_programs(ready[0]) and behind.issuperset(filter(is_for_programs, left)):
+        return [(ready[0], max(1, lanes - 1))]
     return [(it, 1 if at else 1 + free - len(ready)) for at, it in enumerate(ready)]
 
 
@@ -226,7 +240,7 @@ def expected(tasks, lanes):
     return now
 
 
-def arrange(progress, wants_program):
+def arrange(progress, wants_program, built):
     """Has the code of `rt` run its tasks in our lanes, and tell how far they are."""
     compile_by, known = RT.Crate.compile_by, known_seconds()
 
@@ -238,7 +252,7 @@ def arrange(progress, wants_program):
         progress.expect(ours)
         ending = getattr(RT, "ending", contextlib.nullcontext)
         with ending(), concurrent.futures.ThreadPoolExecutor(len(ours)) as pool:
-            return Lanes(ours, pool).run()
+            return Lanes(ours, pool, built).run()
 
     def keeping(key, call):
         """The call; the program that it makes is copied here, before `rt` removes the copy of the crates that it works on."""
@@ -269,14 +283,20 @@ def arrange(progress, wants_program):
     RT.Crate.compile_by = compile_quickly if wants_program else compile_together
 
 
-def with_below(names):
-    """These crates and those of this repository that they stand on."""
+@functools.cache
+def dependencies():
+    """What each crate of this repository stands on."""
     stands_on = {}
-    for line in pathlib.Path("crates.txt").read_text(encoding="utf-8").splitlines():
+    for line in (kit.ROOT / "crates.txt").read_text(encoding="utf-8").splitlines():
         if line and not line.startswith("#"):
             name, _, below = line.partition(":")
             stands_on[name] = below.split()
-    found, left = set(), list(names)
+    return stands_on
+
+
+def with_below(names):
+    """These crates and those of this repository that they stand on."""
+    stands_on, found, left = dependencies(), set(), list(names)
     while left:
         name = left.pop()
         if name in stands_on and name not in found:
@@ -319,13 +339,14 @@ def main():
     parser = argparse.ArgumentParser(description="Proves crates, and those that they stand on, in parallel.")
     how = "build the program with Rattle's own compiler, and keep it in crates/NAME/out"
     parser.add_argument("--program", action="store_true", help=how)
+    parser.add_argument("--built", type=pathlib.Path, metavar="FILE", help="make this file once the programs that are tested are built")
     parser.add_argument("crates", nargs="*", metavar="CRATE", help="these crates; all if none is given")
     given = parser.parse_args()
     os.chdir(kit.ROOT)
     os.environ.pop("CI", None)
     handle, log = tempfile.mkstemp(prefix="drop-prove-", suffix=".log")
     progress = Progress(log)
-    arrange(progress, given.program)
+    arrange(progress, given.program, given.built)
     with open(handle, "w", encoding="utf-8") as out, progress.shown():
         with contextlib.redirect_stdout(out), contextlib.redirect_stderr(out):
             status = proved(given.crates)

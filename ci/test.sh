@@ -1,5 +1,5 @@
 #!/usr/bin/env bash
-# Proves and tests everything: `rt ci`, and then the tests of the built programs, with pytest. Each part ends with `N passed, M
+# Proves and tests everything: `rt ci`, and the tests of the built programs, with pytest. Each part ends with `N passed, M
 # failed`; a part that does not, or cannot be run, has failed. The last line is the sum of all. The status of `rt ci` goes to the
 # file that is given, if one is: .ci/run then tries the must-fail edits in parallel with the tests.
 set -uo pipefail
@@ -86,19 +86,28 @@ with_command objdump binutils
 
 # These have folders and ports of their own, and measure nothing: they run in parallel.
 beside=(ci/test_{rows,replays,streams,machine,office,migrate,desk,respelled,lists,exports,interop,documents,guards,damage,changes}.py)
-# These measure time or memory, load the machine, or need all of it: they run one by one, in parallel with no other tests.
+# These measure time or memory, load the machine, or need all of it: they run one by one, in parallel with no other tests. They
+# begin once the programs are built. Proofs of other crates, with less priority, go on meanwhile.
 alone=(ci/test_{serve,kills,crowd,pace,stops,page,clerk,memory,deploy,package}.py)
 
-# Proves everything by the code of `rt ci`, in the order that ends soonest.
+# Proves everything by the code of `rt ci`. The tested programs come first, and then the file `built`.
 prove() {
-    python3 -B ci/prove.py
+    run rt-ci nice -n 10 python3 -B ci/prove.py --built "$work/built"
+    if [ -n "$proved" ]; then cp "$work/rt-ci.status" "$proved"; fi
+}
+
+# Whether the proofs go on, and the programs are not built yet.
+is_building() {
+    [ ! -e "$work/built" ] && [ ! -e "$work/rt-ci.status" ]
 }
 
 SECONDS=0
-count rt-ci prove
-if [ -n "$proved" ]; then cp "$work/rt-ci.status" "$proved"; fi
-count side-by-side tests -n "$(nproc)" "${beside[@]}"
+prove &
+while is_building; do sleep 1; done
 count one-by-one tests --shots "$work/shots" "${alone[@]}"
+wait
+add rt-ci
+count side-by-side tests -n "$(nproc)" "${beside[@]}"
 count drawings python3 -B ci/drawings.py --check
 echo
 cat "$work/times"
