@@ -104,8 +104,10 @@ is_building() {
 SECONDS=0
 prove &
 while is_building; do sleep 1; done
-count one-by-one tests --shots "$work/shots" "${alone[@]}"
+# in a shell of its own, so that its seconds are not those of proofs that end meanwhile
+(run one-by-one tests --shots "$work/shots" "${alone[@]}")
 wait
+add one-by-one
 add rt-ci
 count side-by-side tests -n "$(nproc)" "${beside[@]}"
 count drawings python3 -B ci/drawings.py --check
