@@ -21,9 +21,9 @@ use sqlkeeper::OpenFault;
 use std::hash::{BuildHasher, RandomState};
 use std::io::ErrorKind;
 
-/// The size of the page cache while an office is served, in pages of 4096 bytes: 64 MB. For any other page the engine reads the
+/// The size of the page cache while an office is served, in pages of 4096 bytes: 128 MB. For any other page the engine reads the
 /// bytes again and computes their checksum.
-const SERVED_PAGES: usize = 16_384;
+const SERVED_PAGES: usize = 32_768;
 
 /// While an office is served, the log is copied into the file once it has this many pages, each with 24 bytes before it: 16 MB.
 /// Pages that are written often, like the totals of a box, are then copied once per hundreds of uploads. No other request is
