@@ -1,9 +1,7 @@
 """Tries the edits `crates/*/edits/*.edit`, each of which the prover must refuse: many in one check, and several checks in
 parallel.
 
-It runs after `rt ci`, over the libraries that `rt ci` leaves, or in parallel with it (`--beside`), and then leaves half of the
-processors to it. A crate's turn comes once its own library exists, since only a proved crate has one. Besides the lines that
-`rt` knows, a file has a line `fn: NAME`: the function that must be refused, as a check prints it. The code of `rt` applies
+It runs after `rt ci`, over the libraries that `rt ci` leaves. Only a proved crate has one. Besides the lines that `rt` knows, a file has a line `fn: NAME`: the function that must be refused, as a check prints it. The code of `rt` applies
 the edits and runs the checks.
 
 A check looks at the functions that its edits name and at the lemmas of their proofs (`--only`). The functions that they call
@@ -37,6 +35,7 @@ import collections
 import concurrent.futures
 import copy
 import dataclasses
+import functools
 import hashlib
 import math
 import os
@@ -64,10 +63,10 @@ FEWEST = 64
 # What a function's proof consists of, and a proof with a hole.
 PROOF_FILES = ["Answers.antt", "Invariants.antt", "Proof.antt"]
 HOLE = "use Rattle.{place}.Statement.{{statement}}\n\npub {name}_spec : {{M : Type 1}} → statement M\n{name}_spec = ?\n"
-# A library that `rt ci` has built is complete once none of its files was written for so many seconds.
-SETTLES = 10
 # A check takes less than this share of the memory that `rt` estimates for it: up to 2 GB were seen, 3.6 in `sqlkeeper`.
 SHARE = 0.5
+# The share of the free memory that checks may take.
+MOST_MEMORY = 0.85
 HEAD = re.compile(r"^( *)(?:pub(?:\([^)]*\))? )?(?:final )?fn (\w+)", re.M)
 VERDICT = re.compile(r"^fn (\S+): (.*)$")
 # A goal that a check left open: its text, and its name.
@@ -320,29 +319,13 @@ def times_of(crate):
     return [os.lstat(f"{at}/{name}").st_ctime for at, _, names in os.walk(crate.rlib) for name in ["", *names]]
 
 
-class Beside:
-    """A run of `rt ci` in parallel with this one, or none."""
-
-    def __init__(self, ended):
-        self.ended, self.begin, self.built = ended, time.time(), set()
-
-    def is_running(self):
-        return self.ended is not None and not self.ended.exists()
-
-    def has_built(self, crate):
-        """Whether the library is complete, and newer than what it is made of: its own sources and the libraries below. While
-        `rt ci` runs, it must also have been written since this script began. Once built, a library stays built. Another run
-        that takes over a library here makes some of its files look newer, so for a library below the oldest file counts."""
-        if crate.name not in self.built and self.is_whole(crate):
-            self.built.add(crate.name)
-        return crate.name in self.built
-
-    def is_whole(self, crate):
-        times, sources = times_of(crate), [*map(os.path.getmtime, RT.rtlib.files_of(crate.folder))]
-        below = [min(times_of(it), default=math.inf) for it in crate.deps]
-        if not times or min(times) < max(sources + below):
-            return False
-        return not self.is_running() or self.begin < min(times) and max(times) < time.time() - SETTLES
+@functools.cache
+def is_built(crate):
+    """Whether the crate's library is newer than what it is made of: its own sources and the libraries below. A run that takes
+    over a library makes some of its files look newer, so for a library below the oldest file counts."""
+    times, sources = times_of(crate), [*map(os.path.getmtime, RT.rtlib.files_of(crate.folder))]
+    below = [min(times_of(it), default=math.inf) for it in crate.deps]
+    return bool(times) and min(times) >= max(sources + below)
 
 
 class Trial:
@@ -356,9 +339,9 @@ class Trial:
         self.need, self.is_begun, self.is_warm = SHARE * RT.need(crate), False, False
         self.edits, self.checks, self.seconds = len(edits), 0, 0
 
-    def lacks(self, beside):
+    def lacks(self):
         """Those of the crate and the crates below it whose libraries are missing."""
-        return [it.name for it in [*self.crate.below(), self.crate] if not beside.has_built(it)]
+        return [it.name for it in [*self.crate.below(), self.crate] if not is_built(it)]
 
     def left(self):
         """The edits that are still to be tried."""
@@ -410,47 +393,39 @@ class Trial:
         return [(it, reading.fault_beside(it), reading.clauses(it.function)) for it in refused]
 
 
-def settled(trials, jobs, beside, last):
+def settled(trials, jobs, last):
     """Runs the checks in parallel, as many as processors and memory allow, and yields each edit with its crate, its fault, and the
     clauses that it leaves unproved. No check begins after the moment `last` of the monotonic clock."""
     running = {}
     with concurrent.futures.ThreadPoolExecutor(jobs) as pool:
-        while begin_checks(trials, running, pool, jobs // 2 if beside.is_running() else jobs, beside, last) or running:
-            done = concurrent.futures.wait(running, SETTLES, concurrent.futures.FIRST_COMPLETED).done if running else []
-            for ended in done:
+        while begin_checks(trials, running, pool, jobs, last) or running:
+            for ended in concurrent.futures.wait(running, return_when=concurrent.futures.FIRST_COMPLETED).done:
                 trial, group = running.pop(ended)
                 found = trial.heard(group, *ended.result())
                 refused = sum(fault in (None, BY_A_NAME) for _, fault, _ in found)
                 print(f"{trial.crate.name}: {refused} of {len(group)} edits refused, {ended.result()[1]:.0f} s", flush=True)
                 yield from ((trial.crate, *it) for it in found)
-            if not running:
-                time.sleep(SETTLES)
     is_over = time.monotonic() > last
     for trial in trials:
-        fault = NO_TIME if is_over else f"NOT TRIED: there is no library of {', '.join(trial.lacks(beside))} as it stands"
+        fault = NO_TIME if is_over else f"NOT TRIED: there is no library of {', '.join(trial.lacks())} as it stands"
         yield from ((trial.crate, it, fault, []) for it in trial.left())
 
 
-def room_of(running, beside):
-    """The memory that the checks may take, including those that run now."""
-    return (0.4 if beside.is_running() else 0.85) * (RT.free() + sum(it.need for it, _ in running.values()))
-
-
-def begin_checks(trials, running, pool, jobs, beside, last):
+def begin_checks(trials, running, pool, jobs, last):
     """Begins the checks for which there is room, those of the first crates first. Returns whether any may follow later: none
     does after the moment `last`."""
     if time.monotonic() > last:
         return False
-    memory = room_of(running, beside)
+    memory = MOST_MEMORY * (RT.free() + sum(it.need for it, _ in running.values()))
     for trial in trials:
-        if trial.lacks(beside):
+        if trial.lacks():
             continue
         while not running or len(running) < jobs and trial.need + sum(it.need for it, _ in running.values()) <= memory:
             group = trial.take()
             if group is None:
                 break
             running[pool.submit(trial.check, group)] = trial, group
-    return any(it.left() and (beside.is_running() or not it.lacks(beside)) for it in trials)
+    return any(it.left() and not it.lacks() for it in trials)
 
 
 def edits_of_crates(names, count, kept):
@@ -514,11 +489,8 @@ def main():
     parser.add_argument("--clauses", action="store_true", help="prove nothing: tell which edits guard each public clause")
     parser.add_argument("--guards", action="store_true", help="write into each edit which clauses it leaves unproved")
     parser.add_argument("--anew", action="store_true", help="try also what earlier runs on this machine tried")
-    parser.add_argument("--beside", type=pathlib.Path, metavar="FILE", help="rt ci still runs, until FILE is there")
     parser.add_argument("--minutes", type=float, default=math.inf, help="begin no check after so many")
     given = parser.parse_args()
-    # created first: what `rt ci` builds while the edits are read counts as built in this run
-    beside = Beside(given.beside)
     begin, count, kept = time.monotonic(), kit.Count(), Kept(given.anew)
     if given.clauses:
         show_clauses(given.only, count)
@@ -527,13 +499,11 @@ def main():
     if given.list:
         print(*(it for _, edits in of_crates for it in edits), sep="\n")
         sys.exit(count.failed > 0)
-    if given.beside:
-        os.nice(10)
     # its first call sets a signal handler, which only the main thread may do
     RT.rtlib.guarded()
     with tempfile.TemporaryDirectory(prefix="edits-") as room:
         trials = trials_of(of_crates, given.keep or pathlib.Path(room), given.jobs)
-        for crate, edit, fault, clauses in settled(trials, given.jobs, beside, begin + 60 * given.minutes):
+        for crate, edit, fault, clauses in settled(trials, given.jobs, begin + 60 * given.minutes):
             if fault == NO_TIME:
                 count.skip(edit.name, fault)
                 continue

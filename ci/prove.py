@@ -5,11 +5,10 @@ checkout; older ones prove everything anew.
 The code of `rt` does the work, and its counts are the last line. Four things are different here:
 
 - `rt` allows each check more memory than it was ever seen to take, so few run in parallel. Here it is half as much.
-- The programs that are tested come first, with the crates below them, and then the crates with the most work behind them, by the
-  seconds in ci/seconds.txt. `rt` counts lines. With `--built FILE`, that file is made once these programs are built, so that
-  their tests can begin.
+- The program `drop` comes first, with the crates below it, and then the crates with the most work behind them, by the seconds in
+  ci/seconds.txt. `rt` counts lines. With `--built FILE`, that file is made once `drop` is built, so that its tests can begin.
 - Several processors take a quarter more time together than one takes alone. So a check has more than one only where no other
-  check could begin on them, or where all that these programs still need waits for it.
+  check could begin on them, or where all that `drop` still needs waits for it.
 - With `--program`, Rattle's own compiler builds the program, which stays in `crates/NAME/out`. It takes half as long as LLVM, whose
   program is a tenth faster. Without, both build it at the same time, and `rt` compares what both programs write.
 
@@ -48,8 +47,8 @@ MORE_MEMORY = 0.6
 MOST_MEMORY = 0.85
 # A task that took less than this share of its seconds was taken over from an earlier run.
 WHOLE = 0.2
-# The programs whose tests take long.
-TESTED = ["drop", "rows"]
+# The program whose tests take long.
+TESTED = "drop"
 # How often the line is written anew, in seconds, and the lines that are shown of a log that ends in a failure.
 EVERY, TAIL = 1, 40
 # What a task without work gives, by its kind; any other gives True. `rt` unpacks what its task for must-fail edits gives.
@@ -187,33 +186,33 @@ class Lanes:
                 key, needs, jobs = self.running.pop(it)
                 self.free, self.memory = self.free + jobs, self.memory + needs
                 self.given[key] = it.result()
-                if self.built and key[0] in TESTED and all(self.given.get((name, "proof")) for name in TESTED):
+                if self.built and key == (TESTED, "proof") and self.given[key]:
                     self.built.touch()
         return self.given
 
 
 def in_order(tasks):
-    """The tasks: first those for the programs that are tested, and of each kind those with the longest chain behind them first."""
+    """The tasks: first those for the tested program, and of each kind those with the longest chain behind them first."""
     behind = {it: tasks[it][1] for it in tasks}
     for key in reversed(tasks):
         for it in tasks[key][0]:
             behind[it] = max(behind[it], tasks[it][1] + behind[key])
-    return sorted(tasks, key=lambda it: (not is_for_programs(it), -behind[it]))
+    return sorted(tasks, key=lambda it: (not is_for_program(it), -behind[it]))
 
 
-def is_for_programs(key):
-    """Whether this task proves a program that is tested, or a crate below one."""
-    return key[1] == "proof" and key[0] in with_below(TESTED)
+def is_for_program(key):
+    """Whether this task proves the tested program, or a crate below it."""
+    return key[1] == "proof" and key[0] in with_below([TESTED])
 
 
 def next_tasks(tasks, left, given, free, lanes):
     """The tasks to begin now on the free processors, each with how many of them it has. Each has one, and the first has those that
-    are left over. It has all if all others wait for it, and all but one if all others for the tested programs do."""
+    are left over. It has all if all others wait for it, and all but one if all others for the tested program do."""
     ready = [it for it in left if all(below in given for below in tasks[it][0])][:max(free, 0)]
     behind = those_behind(tasks, ready[0]) if ready else set()
     if ready and behind.issuperset(left):
         return [(ready[0], lanes)]
-    if ready and is_for_programs(ready[0]) and behind.issuperset(filter(is_for_programs, left)):
+    if ready and is_for_program(ready[0]) and behind.issuperset(filter(is_for_program, left)):
         return [(ready[0], max(1, lanes - 1))]
     return [(it, 1 if at else 1 + free - len(ready)) for at, it in enumerate(ready)]
 
@@ -339,7 +338,7 @@ def main():
     parser = argparse.ArgumentParser(description="Proves crates, and those that they stand on, in parallel.")
     how = "build the program with Rattle's own compiler, and keep it in crates/NAME/out"
     parser.add_argument("--program", action="store_true", help=how)
-    parser.add_argument("--built", type=pathlib.Path, metavar="FILE", help="make this file once the programs that are tested are built")
+    parser.add_argument("--built", type=pathlib.Path, metavar="FILE", help="make this file once `drop` is built")
     parser.add_argument("crates", nargs="*", metavar="CRATE", help="these crates; all if none is given")
     given = parser.parse_args()
     os.chdir(kit.ROOT)

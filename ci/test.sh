@@ -11,7 +11,8 @@ passed=0
 failed=0
 TIMEFORMAT='%R %U %S'
 
-# Runs a part, shows its output, and keeps its output, time and status in files named after it.
+# Runs a part, shows its output, and keeps its output, time and status in files named after it. A part that runs while others do
+# has a shell of its own, so that its seconds are not theirs.
 run() {
     local name=$1
     shift
@@ -40,12 +41,6 @@ add() {
     grep -E '^[a-z0-9_]+ +[0-9.]+ s +[0-9]+ passed, [0-9]+ failed$' "$work/$name.log" | sed 's/^/  /' >>"$work/times"
 }
 
-# Runs a part, and adds its counts.
-count() {
-    run "$@"
-    add "$1"
-}
-
 # Makes sure that a command is installed, from Debian's package of the same name or the one named after it. Without the command,
 # the tests that need it fail.
 with_command() {
@@ -60,11 +55,6 @@ with_module() {
 install() {
     [ "$(id -u)" -eq 0 ] && command -v apt-get >/dev/null || return
     (apt-get update && apt-get install -y --no-install-recommends "$1") >&2
-}
-
-# Runs these modules with pytest.
-tests() {
-    /usr/bin/python3 -B -m pytest "$@"
 }
 
 export PATH=$PATH:/usr/sbin
@@ -84,33 +74,35 @@ with_command lintian
 with_command man man-db
 with_command objdump binutils
 
-# These have folders and ports of their own, and measure nothing: they run in parallel.
-beside=(ci/test_{rows,replays,streams,machine,office,migrate,desk,respelled,lists,exports,interop,documents,guards,damage,changes}.py)
-# These measure time or memory, load the machine, or need all of it: they run one by one, in parallel with no other tests. They
-# begin once the programs are built. Proofs of other crates, with less priority, go on meanwhile.
-alone=(ci/test_{serve,kills,crowd,pace,stops,page,clerk,memory,deploy,package}.py)
+pytest=(/usr/bin/python3 -B -m pytest)
+# These have folders and ports of their own, and measure nothing: they run in parallel, once all is proved, with less priority.
+beside=(ci/test_{memory,rows,replays,streams,machine,office,migrate,desk,respelled,lists,exports,interop,documents,guards,damage,changes}.py)
+# These measure time or memory, load the machine, or need all of it: they run one by one. They begin once `drop` is built, while
+# proofs of other crates go on with less priority.
+alone=(ci/test_{serve,kills,crowd,pace,stops,page,clerk,deploy,package}.py)
 
-# Proves everything by the code of `rt ci`. The tested programs come first, and then the file `built`.
+# Proves everything by the code of `rt ci`, first `drop`: then there is the file `built`.
 prove() {
     run rt-ci nice -n 10 python3 -B ci/prove.py --built "$work/built"
     if [ -n "$proved" ]; then cp "$work/rt-ci.status" "$proved"; fi
 }
 
-# Whether the proofs go on, and the programs are not built yet.
+# Whether the proofs go on, and `drop` is not built yet.
 is_building() {
     [ ! -e "$work/built" ] && [ ! -e "$work/rt-ci.status" ]
 }
 
 SECONDS=0
 prove &
+proving=$!
 while is_building; do sleep 1; done
-# in a shell of its own, so that its seconds are not those of proofs that end meanwhile
-(run one-by-one tests --shots "$work/shots" "${alone[@]}")
+(run one-by-one "${pytest[@]}" --shots "$work/shots" "${alone[@]}") &
+wait $proving
+(run side-by-side nice -n 10 "${pytest[@]}" -n "$(nproc)" "${beside[@]}") >/dev/null
 wait
-add one-by-one
-add rt-ci
-count side-by-side tests -n "$(nproc)" "${beside[@]}"
-count drawings python3 -B ci/drawings.py --check
+cat "$work/side-by-side.log"
+run drawings python3 -B ci/drawings.py --check
+for part in rt-ci one-by-one side-by-side drawings; do add $part; done
 echo
 cat "$work/times"
 echo "$((SECONDS / 60)) min $((SECONDS % 60)) s in all"
