@@ -4,11 +4,12 @@ checkout; older ones prove everything anew.
 
 The code of `rt` does the work, and its counts are the last line. Four things are different here:
 
-- `rt` allows each check more memory than it was ever seen to take, so few run in parallel. Here it is half as much.
-- The program `drop` comes first, with the crates below it, and then the crates with the most work behind them, by the seconds in
-  ci/seconds.txt. `rt` counts lines. With `--built FILE`, that file is made once `drop` is built, so that its tests can begin.
+- `rt` allows each check more memory than it was ever seen to take, so few run in parallel. Here it is less than half as much.
+- The program `drop` comes first, with the crates below it. Other checks only take what processors these leave idle. With `--built
+  FILE`, that file is made once `drop` is built, so that its tests can begin. Of both kinds those come first that have the most
+  work behind them, by the seconds in ci/seconds.txt. `rt` counts lines.
 - Several processors take a quarter more time together than one takes alone. So a check has more than one only where no other
-  check could begin on them, or where all that `drop` still needs waits for it.
+  check of its kind could begin on them.
 - With `--program`, Rattle's own compiler builds the program, which stays in `crates/NAME/out`. It takes half as long as LLVM, whose
   program is a tenth faster. Without, both build it at the same time, and `rt` compares what both programs write.
 
@@ -34,7 +35,7 @@ import kit
 
 RT = kit.rt()
 # A check takes less than this share of the memory that `rt` estimates for it: up to 3 GB were seen.
-SHARE = 0.5
+SHARE = 0.45
 # The processor seconds of each crate: of its proof, and of the proof of its tests.
 SECONDS = pathlib.Path(__file__).with_name("seconds.txt")
 # The seconds for each line of a crate that is not listed there.
@@ -49,6 +50,8 @@ MOST_MEMORY = 0.85
 WHOLE = 0.2
 # The program whose tests take long.
 TESTED = "drop"
+# How many other checks run while it is built, and by how much their priority is lower.
+OTHERS, NICER = 2, 9
 # How often the line is written anew, in seconds, and the lines that are shown of a log that ends in a failure.
 EVERY, TAIL = 1, 40
 # What a task without work gives, by its kind; any other gives True. `rt` unpacks what its task for must-fail edits gives.
@@ -152,11 +155,13 @@ class Progress:
 
 class Lanes:
     """Runs the tasks of `rt`: each once those that it waits for have ended, first those with the longest chain behind them, and as
-    many as processors and memory allow."""
+    many as processors and memory allow. Until the tested program is built, the others run on what processors it leaves idle."""
 
-    def __init__(self, tasks, pool, built=None):
-        self.tasks, self.pool, self.built = tasks, pool, built
-        self.all = self.free = RT.processors()
+    def __init__(self, tasks, built=None):
+        self.tasks, self.built, self.all = tasks, built, RT.processors()
+        self.pools = {True: concurrent.futures.ThreadPoolExecutor(len(tasks)),
+                      # on Linux this is the priority of a thread and of the processes that it makes
+                      False: concurrent.futures.ThreadPoolExecutor(len(tasks), initializer=os.nice, initargs=[NICER])}
         self.memory = MOST_MEMORY * RT.free()
         self.left, self.running = [it for it in in_order(tasks) if tasks[it][1]], {}
         # a crate without tests has a task for them all the same, with no seconds
@@ -164,15 +169,24 @@ class Lanes:
 
     def begin(self):
         """Begins the tasks for which there is room."""
-        for key, jobs in next_tasks(self.tasks, self.left, self.given, self.free, self.all):
-            while jobs > 1 and self.needs(key, jobs) > self.memory:
-                jobs -= 1
-            needs = self.needs(key, jobs)
-            if self.running and needs > self.memory:
-                return
-            self.left.remove(key)
-            self.free, self.memory = self.free - jobs, self.memory - needs
-            self.running[self.pool.submit(self.tasks[key][3], self.given, jobs)] = key, needs, jobs
+        for is_first in [True, False]:
+            left = [it for it in self.left if is_for_program(it) == is_first]
+            for key, jobs in next_tasks(self.tasks, left, self.given, self.free(is_first)):
+                while jobs > 1 and self.needs(key, jobs) > self.memory:
+                    jobs -= 1
+                needs = self.needs(key, jobs)
+                if self.running and needs > self.memory:
+                    return
+                self.left.remove(key)
+                self.memory -= needs
+                self.running[self.pools[is_first].submit(self.tasks[key][3], self.given, jobs)] = key, needs, jobs
+
+    def free(self, is_first):
+        """How many processors more tasks for the tested program, or other tasks, may have."""
+        at_work = [(key, jobs) for key, _, jobs in self.running.values()]
+        is_building = any(map(is_for_program, [*self.left, *(key for key, _ in at_work)]))
+        most = self.all if is_first or not is_building else min(OTHERS, self.all)
+        return most - sum(jobs for key, jobs in at_work if is_for_program(key) == is_first)
 
     def needs(self, key, jobs):
         """The memory that the task takes with so many processors."""
@@ -183,8 +197,8 @@ class Lanes:
         while self.left or self.running:
             self.begin()
             for it in concurrent.futures.wait(self.running, return_when=concurrent.futures.FIRST_COMPLETED).done:
-                key, needs, jobs = self.running.pop(it)
-                self.free, self.memory = self.free + jobs, self.memory + needs
+                key, needs, _ = self.running.pop(it)
+                self.memory += needs
                 self.given[key] = it.result()
                 if self.built and key == (TESTED, "proof") and self.given[key]:
                     self.built.touch()
@@ -205,25 +219,11 @@ def is_for_program(key):
     return key[1] == "proof" and key[0] in with_below([TESTED])
 
 
-def next_tasks(tasks, left, given, free, lanes):
+def next_tasks(tasks, left, given, free):
     """The tasks to begin now on the free processors, each with how many of them it has. Each has one, and the first has those that
-    are left over. It has all if all others wait for it, and all but one if all others for the tested program do."""
+    are left over."""
     ready = [it for it in left if all(below in given for below in tasks[it][0])][:max(free, 0)]
-    behind = those_behind(tasks, ready[0]) if ready else set()
-    if ready and behind.issuperset(left):
-        return [(ready[0], lanes)]
-    if ready and is_for_program(ready[0]) and behind.issuperset(filter(is_for_program, left)):
-        return [(ready[0], max(1, lanes - 1))]
     return [(it, 1 if at else 1 + free - len(ready)) for at, it in enumerate(ready)]
-
-
-def those_behind(tasks, key):
-    """This task, those that wait for it, for one of those, and so on."""
-    found = {key}
-    for it in tasks:
-        if found.intersection(tasks[it][0]):
-            found.add(it)
-    return found
 
 
 def expected(tasks, lanes):
@@ -231,7 +231,7 @@ def expected(tasks, lanes):
     left, given = [it for it in in_order(tasks) if tasks[it][1]], {it for it in tasks if not tasks[it][1]}
     now, running = 0, []
     while left or running:
-        for key, jobs in next_tasks(tasks, left, given, lanes - sum(it[2] for it in running), lanes):
+        for key, jobs in next_tasks(tasks, left, given, lanes - sum(it[2] for it in running)):
             left.remove(key)
             heapq.heappush(running, (now + tasks[key][1] * (1 - PARALLEL + PARALLEL / jobs), key, jobs))
         now, key, _ = heapq.heappop(running)
@@ -250,8 +250,8 @@ def arrange(progress, wants_program, built):
             ours[key] = waits, seconds, SHARE * needs, keeping(key, progress.watched(key, call))
         progress.expect(ours)
         ending = getattr(RT, "ending", contextlib.nullcontext)
-        with ending(), concurrent.futures.ThreadPoolExecutor(len(ours)) as pool:
-            return Lanes(ours, pool, built).run()
+        with ending():
+            return Lanes(ours, built).run()
 
     def keeping(key, call):
         """The call; the program that it makes is copied here, before `rt` removes the copy of the crates that it works on."""
