@@ -38,7 +38,7 @@ BODIES = 60
 MANY = 2000
 LARGE = b"l" * (8 << 20)
 LARGE_FILES, LARGE_PEERS, LARGE_ROOM = 36, 12, 20  # files of the greatest size, connections, MB
-LARGE_ALONE = 100  # MiB for one client with such files after another
+LARGE_ALONE = 164  # MiB for one client with such files after another
 FILES = ["a.txt", "a b/é.txt", "x+y=z&#%.bin"]  # for links by boto3
 
 

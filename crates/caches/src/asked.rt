@@ -6,10 +6,11 @@ use shelf::{CachedKeeper, Shelf};
 use std::alloc::Global;
 use std::test::Fail;
 use trials::boxed::{add_box, office_row, settings};
+use trials::plain::Plain;
 use trials::published::{ID, SECRET};
 use trials::watched::Watched;
 
-type Cached = CachedKeeper<Watched<Shelf>>;
+type Cached = Plain<CachedKeeper<Watched<Shelf>>>;
 
 // An office with a link key `lin` and boxes `in` and `out`. Its counters are zero.
 fn office(alloc: Global) -> Result<Watched<Shelf>, Fail> {
@@ -30,14 +31,16 @@ fn office(alloc: Global) -> Result<Watched<Shelf>, Fail> {
 
 // A cached keeper around this one.
 fn cached(alloc: Global) -> Result<Cached, Fail> {
-    Ok(CachedKeeper::new(alloc, office(alloc)?))
+    let inner = CachedKeeper::new(alloc, office(alloc)?);
+    Ok(Plain { inner })
 }
 
 // The same, where the inner keeper refuses the call of this number.
 fn refusing(alloc: Global, call: u64) -> Result<Cached, Fail> {
     let mut within = office(alloc)?;
     within.refuse(call);
-    Ok(CachedKeeper::new(alloc, within))
+    let inner = CachedKeeper::new(alloc, within);
+    Ok(Plain { inner })
 }
 
 // The change that sets the three-byte file `a` of the box `in`.
@@ -84,7 +87,7 @@ fn tells_alike(keeper: &mut Cached) -> Result<bool, Fail> {
 fn asks_once(rt: HostRuntime) -> Result<(), Fail> {
     let mut keeper = cached(rt.alloc())?;
     assert!(rt; tells_alike(&mut keeper)?);
-    assert_eq!(rt; keeper.into_inner().calls, 6);
+    assert_eq!(rt; keeper.inner.into_inner().calls, 6);
     Ok(())
 }
 
@@ -112,7 +115,7 @@ fn tells_the_rest_alike(keeper: &mut Cached) -> Result<bool, Fail> {
 fn asks_for_the_rest_each_time(rt: HostRuntime) -> Result<(), Fail> {
     let mut keeper = cached(rt.alloc())?;
     assert!(rt; tells_the_rest_alike(&mut keeper)?);
-    assert_eq!(rt; keeper.into_inner().calls, 20);
+    assert_eq!(rt; keeper.inner.into_inner().calls, 20);
     Ok(())
 }
 
@@ -151,7 +154,7 @@ fn forgets_what_changed(rt: HostRuntime) -> Result<(), Fail> {
     let mut keeper = cached(rt.alloc())?;
     assert!(rt; tells_changes(&mut keeper)?);
     assert_eq!(rt;
-        keeper.into_inner().calls,
+        keeper.inner.into_inner().calls,
         6 + 6 + 3 + 1 + 2 + 1 + 1 + 2 + 2
     );
     Ok(())
@@ -203,7 +206,7 @@ fn follows_uploads(keeper: &mut Cached) -> Result<bool, Fail> {
 fn asks_nothing_again_for_uploads(rt: HostRuntime) -> Result<(), Fail> {
     let mut keeper = cached(rt.alloc())?;
     assert!(rt; follows_uploads(&mut keeper)?);
-    let mut within = keeper.into_inner();
+    let mut within = keeper.inner.into_inner();
     assert_eq!(rt; within.calls, 2 + 4 * 4);
     let totals = within.sizes(b"in")?;
     assert!(rt; totals.used == 6 && totals.count == 2 && within.next_number()? == 5);
@@ -228,7 +231,7 @@ fn follows_other_uploads(keeper: &mut Cached) -> Result<bool, Fail> {
 fn asks_for_totals_of_other_uploads(rt: HostRuntime) -> Result<(), Fail> {
     let mut keeper = cached(rt.alloc())?;
     assert!(rt; follows_other_uploads(&mut keeper)?);
-    assert_eq!(rt; keeper.into_inner().calls, 1 + 5 + 5 + 5 + 4);
+    assert_eq!(rt; keeper.inner.into_inner().calls, 1 + 5 + 5 + 5 + 4);
     Ok(())
 }
 
@@ -261,7 +264,7 @@ fn tells_what_comes(keeper: &mut Cached) -> Result<bool, Fail> {
 fn finds_what_comes(rt: HostRuntime) -> Result<(), Fail> {
     let mut keeper = cached(rt.alloc())?;
     assert!(rt; tells_what_comes(&mut keeper)?);
-    assert_eq!(rt; keeper.into_inner().calls, 6);
+    assert_eq!(rt; keeper.inner.into_inner().calls, 6);
     Ok(())
 }
 
@@ -278,7 +281,7 @@ fn asks_for_uses(keeper: &mut Cached) -> Result<bool, Fail> {
 fn keeps_sixteen_uses_of_a_key(rt: HostRuntime) -> Result<(), Fail> {
     let mut keeper = cached(rt.alloc())?;
     assert!(rt; asks_for_uses(&mut keeper)?);
-    assert_eq!(rt; keeper.into_inner().calls, 1 + 17 + 1);
+    assert_eq!(rt; keeper.inner.into_inner().calls, 1 + 17 + 1);
     Ok(())
 }
 
@@ -301,7 +304,7 @@ fn asks_for_boxes(keeper: &mut Cached) -> Result<bool, Fail> {
 fn keeps_eight_thousand_boxes(rt: HostRuntime) -> Result<(), Fail> {
     let mut keeper = cached(rt.alloc())?;
     assert!(rt; asks_for_boxes(&mut keeper)?);
-    assert_eq!(rt; keeper.into_inner().calls, 2 * 8193 + 1);
+    assert_eq!(rt; keeper.inner.into_inner().calls, 2 * 8193 + 1);
     Ok(())
 }
 
@@ -319,7 +322,7 @@ fn leaves_all(keeper: &mut Cached) -> Result<bool, Fail> {
 fn forgets_all_at_a_fault(rt: HostRuntime) -> Result<(), Fail> {
     let mut keeper = cached(rt.alloc())?;
     assert!(rt; leaves_all(&mut keeper)?);
-    let within = keeper.into_inner();
+    let within = keeper.inner.into_inner();
     assert_eq!(rt; within.calls, 15);
     assert_eq!(rt; within.faults, 1);
     Ok(())
@@ -368,12 +371,12 @@ fn asks_all_again_behind_each_fault(rt: HostRuntime) -> Result<(), Fail> {
     for kind in 0..14_u8 {
         let mut keeper = refusing(rt.alloc(), 7)?;
         assert!(rt; fails_at(&mut keeper, kind)?);
-        assert_eq!(rt; keeper.into_inner().calls, 6 + 1 + 6);
+        assert_eq!(rt; keeper.inner.into_inner().calls, 6 + 1 + 6);
     }
     for is_next in [true, false] {
         let mut keeper = refusing(rt.alloc(), 2)?;
         assert!(rt; fails_first(&mut keeper, is_next)?);
-        assert_eq!(rt; keeper.into_inner().calls, 3);
+        assert_eq!(rt; keeper.inner.into_inner().calls, 3);
     }
     Ok(())
 }

@@ -6,6 +6,7 @@ pub mod boxed;
 pub mod errands;
 pub mod fakes;
 pub mod owed;
+pub mod plain;
 pub mod published;
 pub mod staged;
 pub mod telling;
