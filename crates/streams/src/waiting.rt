@@ -32,15 +32,17 @@ fn what_was_gathered_comes_first(rt: HostRuntime) -> Result<(), Fail> {
 fn gathers_a_fault<R: Read>(rt: &impl Abort, reader: &mut Gathered<R>) -> Result<(), Fail> {
     assert_eq!(rt; reader.gather(64)?, Gathering::Came);
     assert_eq!(rt; reader.gather(64)?, Gathering::Failed);
-    reader.fail(io::Error::from(ErrorKind::TimedOut));
     assert_eq!(rt; reader.gather(64)?, Gathering::Failed);
+    assert!(rt; reader.has_failed() && !reader.is_cut());
     Ok(())
 }
 
-// Reads those bytes and that fault.
+// Reads those bytes and that fault, which another one does not replace.
 fn reads_a_fault<R: Read>(rt: &impl Abort, reader: &mut Gathered<R>) -> Result<(), Fail> {
     let mut buffer = [0; 64];
     assert_eq!(rt; reader.read(&mut buffer)?, 3);
+    assert!(rt; fails(reader.read(&mut buffer), ErrorKind::ConnectionReset));
+    reader.fail(io::Error::from(ErrorKind::TimedOut));
     assert!(rt; fails(reader.read(&mut buffer), ErrorKind::ConnectionReset));
     Ok(())
 }
@@ -52,6 +54,17 @@ fn the_first_fault_stays(rt: HostRuntime) -> Result<(), Fail> {
     gathers_a_fault(&rt, &mut reader)?;
     assert_eq!(rt; reader.inner.calls, 2);
     reads_a_fault(&rt, &mut reader)
+}
+
+#[test]
+fn a_reader_that_is_cut_off_gives_no_more(rt: HostRuntime) -> Result<(), Fail> {
+    let mut reader = Gathered::new(rt.alloc(), Slow::new(rt.alloc(), &[], TEXT));
+    assert_eq!(rt; reader.gather(64)?, Gathering::Came);
+    reader.fail(io::Error::from(ErrorKind::TimedOut));
+    assert!(rt; reader.is_cut() && fails(reader.read(&mut [0; 64]), ErrorKind::TimedOut));
+    assert_eq!(rt; reader.gather(64)?, Gathering::Failed);
+    assert_eq!(rt; (reader.ahead(), reader.inner.calls), (TEXT, 1));
+    Ok(())
 }
 
 // Takes the first request from a feed. Returns what the feed leaves.
@@ -86,9 +99,11 @@ fn reads_the_rest<R: Read>(rt: &impl Abort, reader: &mut Counted<R>) -> Result<(
 
 #[test]
 fn what_a_feed_leaves_is_put_back(rt: HostRuntime) -> Result<(), Fail> {
-    let mut reader = Counted::new(Gathered::new(rt.alloc(), Slow::new(rt.alloc(), &[], TEXT)));
+    let turns = [Turn::Moves(64), Turn::Fails(ErrorKind::TimedOut)];
+    let slow = Slow::new(rt.alloc(), &turns, TEXT);
+    let mut reader = Counted::new(Gathered::new(rt.alloc(), slow));
     assert_eq!(rt; reader.inner.gather(64)?, Gathering::Came);
-    reader.inner.fail(io::Error::from(ErrorKind::TimedOut));
+    assert_eq!(rt; reader.inner.gather(64)?, Gathering::Failed);
     let standing = take_first(&rt, rt.alloc(), &mut reader)?;
     puts_back(&rt, standing, &mut reader.inner);
     reads_the_rest(&rt, &mut reader)
