@@ -195,10 +195,13 @@ def silent_for(server, *parts):
 def test_broken(drop, check):
     """A peer that is silent or goes away ends only its own connection, and the last connection is served."""
     file, data = open_office(drop, "broken"), b"d" * MEBIBYTE
-    server = Server(drop, file, 11, patience=1)
+    server = Server(drop, file, 12, patience=1)
     put, get, next_put = server.message("PUT", "in/a", data), server.message("GET", "in/a"), server.message("PUT", "in/b", b"b")
+    large = b"l" * LIMIT
+    put_large, get_large = server.message("PUT", "in/large", large), server.message("GET", "in/large")
     with server:
         check("before", difference(server.ask(put), receipt(1, data)))
+        check("a large file", difference(server.ask(put_large), receipt(2, large)))
         for name, parts, owed in [("half a head and silence", [get[:-2]], b""), ("silence", [], b""),
                                   ("an answer and silence", [get + get[:-2]], fetched(1, data))]:
             found, seconds = silent_for(server, *parts)
@@ -208,14 +211,14 @@ def test_broken(drop, check):
         broken_off(server, put[:-1])
         broken_off(server, get[:-1])
         broken_off(server, get * 100)
-        broken_off(server, get + next_put, buffer=4096)  # the second is not acted on, as the first answer is not sent
+        broken_off(server, get_large + next_put, buffer=4096)  # the upload is not acted on: the first answer is not sent
         with server.connect(4096) as it:  # reads no answer, and stays connected
             it.settimeout(3)
             with contextlib.suppress(OSError):
                 it.sendall(get * 1000)
             check("the last connection", difference(server.ask(get), fetched(1, data)))
         check("the end", difference(server.end(), server.owed_end(True)))
-    check("the file", difference(tables.rows(file, "SELECT COUNT(*) FROM receipts"), [(1,)]))
+    check("the file", difference(tables.rows(file, "SELECT name FROM receipts"), [("a",), ("large",)]))
 
 
 def test_patience(drop, check):
