@@ -176,9 +176,9 @@ def test_nonsense(drop, check):
     check("the office stays", None if tables.dump(file) == before else "it was changed")
 
 
-def broken_off(server, *parts):
-    """Sends these bytes on a new connection, and resets it."""
-    with server.connect() as it:
+def broken_off(server, *parts, buffer=None):
+    """Sends these bytes on a new connection, and resets it. If `buffer` is given, so many bytes of answers come before."""
+    with server.connect(buffer) as it:
         for part in parts:
             it.sendall(part)
         time.sleep(0.1)
@@ -195,8 +195,8 @@ def silent_for(server, *parts):
 def test_broken(drop, check):
     """A peer that is silent or goes away ends only its own connection, and the last connection is served."""
     file, data = open_office(drop, "broken"), b"d" * MEBIBYTE
-    server = Server(drop, file, 10, patience=1)
-    put, get = server.message("PUT", "in/a", data), server.message("GET", "in/a")
+    server = Server(drop, file, 11, patience=1)
+    put, get, next_put = server.message("PUT", "in/a", data), server.message("GET", "in/a"), server.message("PUT", "in/b", b"b")
     with server:
         check("before", difference(server.ask(put), receipt(1, data)))
         for name, parts, owed in [("half a head and silence", [get[:-2]], b""), ("silence", [], b""),
@@ -208,6 +208,7 @@ def test_broken(drop, check):
         broken_off(server, put[:-1])
         broken_off(server, get[:-1])
         broken_off(server, get * 100)
+        broken_off(server, get + next_put, buffer=4096)  # the second is not acted on, as the first answer is not sent
         with server.connect(4096) as it:  # reads no answer, and stays connected
             it.settimeout(3)
             with contextlib.suppress(OSError):

@@ -4,7 +4,7 @@ use Rattle.std.specs.List.{AllByRecursion}
 use Rattle.std.specs.declared.io.Error.{Error}
 use Rattle.wire.specs.Crowds.{GivenTurn, slot_at}
 use Rattle.wire.specs.Feeds.{ahead_of}
-use Rattle.wire.specs.Gathering.{HasFailed, ahead_in}
+use Rattle.wire.specs.Gathering.{HasFailed, IsCut, ahead_in}
 use Rattle.wire.specs.Outgoing.{NoneFailed, WriteFailed, waits_out}
 use Rattle.wire.specs.declared.gathered.Gathered.{Gathered}
 use Rattle.wire.specs.declared.outbox.Outbox.{Outbox}
@@ -32,9 +32,13 @@ pub record IsUntouched {E : Type 0} (seat : Seat (Gathered E) (Outbox E)) : Type
 abbrev pub IsSettled : {E : Type 0} → Seat (Gathered E) (Outbox E) → Type 0
 IsSettled seat = (waits_out seat.writer.inner ≡ []) ⊎ WriteFailed seat.writer.inner
 
+-- A turn may be given: everything written to the connection was sent, or each read of it fails at once.
+abbrev pub MayTurn : {E : Type 0} → Seat (Gathered E) (Outbox E) → Type 0
+MayTurn seat = ((waits_out seat.writer.inner ≡ []) × NoneFailed seat.writer.inner) ⊎ IsCut seat.reader.inner
+
 -- the same of the connection in slot p
-abbrev pub IsSettledAt : {E : Type 0} → List (Option (Seat (Gathered E) (Outbox E))) → ℕ → Type 0
-IsSettledAt slots p = IfSome (slot_at slots p) IsSettled
+abbrev pub MayTurnAt : {E : Type 0} → List (Option (Seat (Gathered E) (Outbox E))) → ℕ → Type 0
+MayTurnAt slots p = IfSome (slot_at slots p) MayTurn
 
 -- The connection is through: it is idle if it is open, and if it ended by a failed read, its reader has a
 -- fault, either from a read or because it was made to fail.

@@ -4,7 +4,7 @@ ghost use Rattle.std.specs.List.{count_by};
 ghost use Rattle.wire.specs.Crowds.{slot_at};
 ghost use Rattle.wire.specs.Seats.{IsNew};
 ghost use Rattle.wire.specs.Gathering.{ahead_in};
-ghost use Rattle.sockets.specs.Accepting.{IsIdle, IsSettled, IsThrough, IsUntouched, is_write_fault, lacks_answers};
+ghost use Rattle.sockets.specs.Accepting.{IsIdle, IsSettled, IsThrough, IsUntouched, MayTurn, is_write_fault, lacks_answers};
 
 use crate::rooms::Share;
 use std::alloc::Global;
@@ -34,10 +34,10 @@ pub(crate) fn ahead_len<S: Read>(slots: &[Option<Held<S>>], index: usize) -> usi
     }
 }
 
-/// Whether nothing waits for the peer of the connection in the slot that could still be sent.
-pub(crate) fn is_settled_at<S: Read + Write>(slots: &[Option<Held<S>>], index: usize) -> bool {
+/// Whether a turn may be given to the connection in the slot.
+pub(crate) fn may_turn_at<S: Read + Write>(slots: &[Option<Held<S>>], index: usize) -> bool {
     match seat_at(slots, index) {
-        Some(seat) => is_settled(seat),
+        Some(seat) => may_turn(seat),
         None => true,
     }
 }
@@ -70,6 +70,16 @@ pub(crate) fn is_settled<S: Read + Write>(seat: &Held<S>) -> bool
 {
     let writer = &seat.writer.inner;
     writer.has_failed() || writer.waiting().is_empty()
+}
+
+/// Whether a turn may be given to the connection: everything written to it was sent, or each read of it fails at
+/// once.
+pub(crate) fn may_turn<S: Read + Write>(seat: &Held<S>) -> bool
+    ensures { IsTrue result → MayTurn seat.now }
+{
+    let writer = &seat.writer.inner;
+    let is_sent = writer.waiting().is_empty() && !writer.has_failed();
+    is_sent || seat.reader.inner.is_cut()
 }
 
 // Whether the connection is between two messages: none is under way, no bytes are ahead or waiting, and no read

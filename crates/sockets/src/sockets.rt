@@ -1,12 +1,12 @@
 //! The sockets of a listener's peers, as the crowd around an office.
 ghost use Rattle.std.specs.Prelude.{◌≡◌, ◌<◌, true};
 ghost use Rattle.wire.specs.Crowds.{IsOpenAt};
-ghost use Rattle.sockets.specs.Accepting.{IsSettledAt};
+ghost use Rattle.sockets.specs.Accepting.{MayTurnAt};
 
 use crate::actions::{Action, Outcome};
 use crate::book::Book;
 use crate::gate::Gate;
-use crate::held::{Held, is_settled};
+use crate::held::{Held, may_turn};
 use crate::socket::Listener;
 use crate::start::Start;
 use std::io::{Read, Write};
@@ -47,16 +47,16 @@ impl<'a, R: time::Clock, L: Listener, S: Start<L::Stream, L::End>> Sockets<'a, R
     }
 }
 
-// Whether the slot holds an open connection for whose peer no bytes wait, or whose writes have failed.
-fn may_turn<S: Read + Write>(slots: &[Option<Held<S>>], index: usize) -> bool
+// Whether the slot holds an open connection to which a turn may be given.
+fn may_turn_in<S: Read + Write>(slots: &[Option<Held<S>>], index: usize) -> bool
     ensures is_open { result ≡ true → IsOpenAt slots.now index }
-    ensures settled { result ≡ true → IsSettledAt slots.now index }
+    ensures settled { result ≡ true → MayTurnAt slots.now index }
 {
     if index >= slots.len() {
         return false;
     }
     match &slots[index] {
-        Some(seat) => seat.end().is_none() && is_settled(seat),
+        Some(seat) => seat.end().is_none() && may_turn(seat),
         None => false,
     }
 }
@@ -66,14 +66,14 @@ impl<R: time::Clock, L: Listener, S: Start<L::Stream, L::End>> Crowd<
     Outbox<L::End>,
 > for Sockets<'_, R, L, S> {
     ghost use Rattle.std.specs.Prelude.{⊤};
-    ghost use Rattle.sockets.specs.Accepting.{HasGiven, IsSettled};
+    ghost use Rattle.sockets.specs.Accepting.{HasGiven, MayTurn};
     ghost use Rattle.sockets.specs.Moving.{HasPassed};
 
     ghost met = { λ s came gone. HasPassed S.told S.connections S.most L.told L.are_ends s.gate came gone };
 
     ghost gave = { λ s _ given. HasGiven s.gate.came s.turns given };
 
-    ghost settled = { λ seat. IsSettled seat };
+    ghost settled = { λ seat. MayTurn seat };
 
     ghost over = { λ _. ⊤ };
 
@@ -85,7 +85,7 @@ impl<R: time::Clock, L: Listener, S: Start<L::Stream, L::End>> Crowd<
         let mut outcome = Outcome::Turned(spare);
         'actions: for _ in 0..u64::MAX {
             let action = match self.book.next(slots, outcome) {
-                Action::Turn(due) if self.turns > 0 && may_turn(slots, due.index) => {
+                Action::Turn(due) if self.turns > 0 && may_turn_in(slots, due.index) => {
                     self.turns -= 1;
                     return Some(due);
                 }

@@ -2,7 +2,7 @@
 //! timeouts; new connections; connections that wait for room.
 use crate::actions::{Action, Outcome};
 use crate::book::{Book, LISTENER};
-use crate::held::{Held, ahead_len, is_settled_at, seat_at};
+use crate::held::{Held, ahead_len, may_turn_at, seat_at};
 use crate::peer::Phase;
 use crate::socket::Listener;
 use mio::Token;
@@ -104,7 +104,7 @@ impl<R: time::Clock, L: Listener> Book<'_, R, L> {
         let Phase::Due = self.phase(index) else {
             return Action::Pass;
         };
-        if !is_settled_at(slots, index) {
+        if !may_turn_at(slots, index) {
             self.enter(index, Phase::Silent);
             return Action::Send { index };
         }

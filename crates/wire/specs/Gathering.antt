@@ -1,5 +1,5 @@
 -- What a `Gathered` has read ahead, and what gathering changes.
-use Rattle.std.specs.Prelude.{◌≡◌, ◌≢◌, ℕ, ◌+◌, ◌≤◌, List, [], ◌++◌, length, drop, vec_capacity, Option, IsSome, Result, Ok, Err}
+use Rattle.std.specs.Prelude.{◌≡◌, ◌≢◌, ℕ, ◌+◌, ◌≤◌, List, [], ◌++◌, length, drop, vec_capacity, true, Option, IsSome, Result, Ok, Err}
 use Rattle.std.specs.Io.KnownBytes.{Consumes, IsAtEnd, Keeps}
 use Rattle.wire.specs.declared.gathered.Gathered.{Gathered}
 use Rattle.wire.specs.declared.gathered.Gathering.{Gathering}
@@ -12,6 +12,10 @@ ahead_in g = drop g.start g.bytes.items
 -- a read failed, or `fail` was called
 abbrev pub HasFailed : {S : Type 0} → Gathered S → Type 0
 HasFailed g = IsSome g.fault
+
+-- `fail` was called: no more bytes are given
+abbrev pub IsCut : {S : Type 0} → Gathered S → Type 0
+IsCut g = (g.is_cut ≡ true) × HasFailed g
 
 -- the fault does not change
 abbrev pub KeepsFault : {S : Type 0} → Gathered S → Gathered S → Type 0

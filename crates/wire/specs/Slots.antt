@@ -3,7 +3,7 @@
 use Rattle.std.specs.Prelude.{◌≡◌, ◌≤◌, ◌↔◌, ℕ, ◌+◌, List, [], ◌++◌, length, IsOk, IsSome, Option, Result}
 use Rattle.std.specs.Io.KnownBytes.{Appends}
 use Rattle.wire.specs.Feeds.{ahead_of}
-use Rattle.wire.specs.Gathering.{HasFailed, HasRoomFor, KeepsFault, ahead_in}
+use Rattle.wire.specs.Gathering.{HasFailed, HasRoomFor, IsCut, KeepsFault, ahead_in}
 use Rattle.wire.specs.Gathering as gathering
 use Rattle.wire.specs.Outgoing.{NoneFailed, WriteFailed, waits_out}
 use Rattle.wire.specs.declared.gathered.Gathered.{Gathered}
@@ -27,11 +27,10 @@ abbrev pub PutsBack : {S W T : Type 0} → Seat (Gathered S) W → Seat (Gathere
 PutsBack a b result =
     (ahead_of b.standing ++ ahead_in b.reader.inner ≡ ahead_of a.standing ++ ahead_in a.reader.inner) × (IsSome result → ahead_of b.standing ≡ []) × KeepsFault a.reader.inner b.reader.inner
 
--- Reads after the bytes that are ahead fail. If they failed before, the fault is unchanged. The feed is
--- unchanged.
+-- Each read fails at once. If reads failed before, the fault is unchanged. The feed is unchanged.
 abbrev pub Fails : {S W : Type 0} → Seat (Gathered S) W → Seat (Gathered S) W → Type 0
 Fails a b =
-    (b.standing ≡ a.standing) × (ahead_in b.reader.inner ≡ ahead_in a.reader.inner) × HasFailed b.reader.inner
+    (b.standing ≡ a.standing) × (ahead_in b.reader.inner ≡ ahead_in a.reader.inner) × IsCut b.reader.inner
     × (HasFailed a.reader.inner → KeepsFault a.reader.inner b.reader.inner)
 
 -- The first of the waiting bytes were sent. The result tells whether some still wait, or a write failed.

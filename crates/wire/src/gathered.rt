@@ -10,7 +10,8 @@ use std::io;
 use std::io::{ErrorKind, Read};
 
 /// Gives the bytes that were read ahead, then those of its reader. After a failed read each later read, once
-/// those bytes are given, fails with the same error. A read that would only wait has not failed.
+/// those bytes are given, fails with the same error. A read that would only wait has not failed. Once it is cut
+/// off by `fail`, each read fails at once.
 #[derive(Drop)]
 pub struct Gathered<S> {
     /// The reader. Its bytes follow those that were read ahead.
@@ -20,6 +21,8 @@ pub struct Gathered<S> {
     // The number of bytes that were already given.
     start: usize,
     fault: Option<io::Error>,
+    // Whether the bytes that were read ahead are given no more.
+    is_cut: bool,
     ghost within: { start ≤ vec_len bytes },
 }
 
@@ -80,13 +83,14 @@ fn read_behind<S: Read>(bytes: &mut Vec<u8>, most: usize, reader: &mut S) -> io:
 }
 
 impl<S: Read> Gathered<S> {
-    ghost use Rattle.wire.specs.Gathering.{Gathers, HasFailed, HasRoomFor, KeepsFault, ahead_in};
+    ghost use Rattle.wire.specs.Gathering.{Gathers, HasFailed, HasRoomFor, IsCut, KeepsFault, ahead_in};
 
     /// Nothing was read ahead, and no memory is taken.
     pub fn new(alloc: Global, inner: S) -> Gathered<S>
         ensures inner { result.inner ≡ inner }
         ensures ahead { ahead_in result ≡ [] }
         ensures hale { result.fault ≡ None }
+        ensures whole { result.is_cut ≡ false }
     {
         Gathered {
             inner,
@@ -94,6 +98,7 @@ impl<S: Read> Gathered<S> {
             bytes: Vec::new(alloc),
             start: 0,
             fault: None,
+            is_cut: false,
         }
     }
 
@@ -132,23 +137,43 @@ impl<S: Read> Gathered<S> {
                 if error.kind() == ErrorKind::WouldBlock {
                     return Ok(Gathering::Waits);
                 }
-                self.fail(error);
+                self.note(error);
                 Ok(Gathering::Failed)
             }
         }
     }
 
-    /// Whether a read failed or `fail` was called. Each read fails then, once the bytes that were read ahead
-    /// are given.
+    /// Whether a read failed or `fail` was called. Each read fails then: once the bytes that were read ahead are
+    /// given, or at once after `fail`.
     pub fn has_failed(&self) -> bool
         ensures { IsTrue result ↔ HasFailed self.now }
     {
         self.fault.is_some()
     }
 
-    /// Makes each read fail with this error, once the bytes that were read ahead are given. An earlier error
-    /// stays.
+    /// Whether `fail` was called. Each read fails at once then.
+    pub fn is_cut(&self) -> bool
+        ensures { IsTrue result ↔ IsCut self.now }
+    {
+        self.is_cut && self.has_failed()
+    }
+
+    /// Makes each read fail at once, with this error or an earlier one: the bytes that were read ahead are given
+    /// no more.
     pub fn fail(&mut self, error: io::Error)
+        ensures failed { IsCut self.new }
+        ensures told { ¬ HasFailed self.old → self.new.fault ≡ Some error }
+        ensures first { HasFailed self.old → self.new.fault ≡ self.old.fault }
+        ensures ahead { ahead_in self.new ≡ ahead_in self.old }
+        ensures inner { self.new.inner ≡ self.old.inner }
+    {
+        self.note(error);
+        self.is_cut = true;
+    }
+
+    // Makes each read fail with this error, once the bytes that were read ahead are given. An earlier error
+    // stays.
+    fn note(&mut self, error: io::Error)
         ensures failed { HasFailed self.new }
         ensures told { ¬ HasFailed self.old → self.new.fault ≡ Some error }
         ensures first { HasFailed self.old → self.new.fault ≡ self.old.fault }
@@ -158,6 +183,17 @@ impl<S: Read> Gathered<S> {
         if self.fault.is_none() {
             self.fault = Some(error);
         }
+    }
+
+    // The error with which a read fails at once, if it does.
+    fn cut(&self) -> Option<io::Error>
+        ensures cut { IsCut self.now → IsSome result }
+        ensures some { IfSome result (λ e. IsCut self.now × (self.now.fault ≡ Some e)) }
+    {
+        if self.is_cut {
+            return self.fault;
+        }
+        None
     }
 
     // Keeps the error of a failed read, unless the read would only wait. An earlier error stays.
@@ -170,7 +206,7 @@ impl<S: Read> Gathered<S> {
         ensures inner { self.new.inner ≡ self.old.inner }
     {
         if error.kind() != ErrorKind::WouldBlock {
-            self.fail(error);
+            self.note(error);
         }
     }
 
@@ -231,7 +267,7 @@ impl<S: Read> Gathered<S> {
 }
 
 impl<S: Read> Read for Gathered<S> {
-    ghost use Rattle.wire.specs.Gathering.{HasFailed, KeepsFault, ahead_in};
+    ghost use Rattle.wire.specs.Gathering.{HasFailed, IsCut, KeepsFault, ahead_in};
 
     ghost remaining = { λ gathered. prepend_known (ahead_in gathered) (S.remaining gathered.inner) };
 
@@ -239,7 +275,8 @@ impl<S: Read> Read for Gathered<S> {
         ensures bound { ReadsAtMost result buf.new }
         ensures bytes { ReadConsumes (prepend_known (ahead_in self.old) (S.remaining self.old.inner))
             (prepend_known (ahead_in self.new) (S.remaining self.new.inner)) result buf.new }
-        ensures first { ahead_in self.old ≢ [] → IsOk result }
+        ensures cut { IsCut self.old → IsErr result }
+        ensures first { ¬ IsCut self.old → ahead_in self.old ≢ [] → IsOk result }
         ensures then { ahead_in self.old ≡ [] → HasFailed self.old → IsErr result }
         ensures failed { HasFailed self.old → HasFailed self.new }
         ensures kept { IfErr result (λ e. HasFailed self.new ⊎ (error_kind e ≡ ErrorKind.WouldBlock)) }
@@ -247,6 +284,9 @@ impl<S: Read> Read for Gathered<S> {
         ensures hale { IsOk result → KeepsFault self.old self.new }
         ensures same { IfErr result (λ e. HasFailed self.new → self.new.fault ≡ Some e) }
     {
+        if let Some(error) = self.cut() {
+            return Err(error);
+        }
         if !self.ahead().is_empty() {
             return Ok(self.give(buf));
         }

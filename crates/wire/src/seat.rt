@@ -114,7 +114,7 @@ impl<R, W> Seat<R, W> {
 
 impl<S: Read, W> Seat<Gathered<S>, W> {
     ghost use Rattle.std.specs.Prelude.{◌+◌, ◌++◌, IsOk, IsSome};
-    ghost use Rattle.wire.specs.Gathering.{Gathers as ReadsAhead, HasFailed, HasRoomFor, KeepsFault, ahead_in};
+    ghost use Rattle.wire.specs.Gathering.{Gathers as ReadsAhead, HasFailed, HasRoomFor, IsCut, KeepsFault, ahead_in};
     ghost use Rattle.wire.specs.Feeds.{ahead_of};
     ghost use Rattle.wire.specs.Seats.{Gathers};
 
@@ -131,13 +131,13 @@ impl<S: Read, W> Seat<Gathered<S>, W> {
         self.reader.inner.gather(most)
     }
 
-    /// Makes each read fail with this error, once the bytes that were read ahead are given. An earlier error
-    /// stays.
+    /// Makes each read fail at once, with this error or an earlier one: the bytes that were read ahead are given
+    /// no more.
     pub fn fail(&mut self, error: io::Error)
         ensures gathers { Gathers ⟦<Gathered<S> as Read>⟧.remaining self.old self.new }
         ensures standing { self.new.standing ≡ self.old.standing }
         ensures ahead { ahead_in self.new.reader.inner ≡ ahead_in self.old.reader.inner }
-        ensures failed { HasFailed self.new.reader.inner }
+        ensures failed { IsCut self.new.reader.inner }
         ensures first { HasFailed self.old.reader.inner
             → KeepsFault self.old.reader.inner self.new.reader.inner }
     {

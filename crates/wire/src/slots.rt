@@ -97,8 +97,8 @@ pub fn settle_slot<S: Read, W: Write>(
     }
 }
 
-/// Makes each read of the connection in the slot fail with this error, once the bytes that were read ahead
-/// are given. Nothing changes if a read failed before or the connection has ended.
+/// Makes each read of the connection in the slot fail at once, with this error or an earlier one. Nothing
+/// changes if the connection has ended.
 pub fn fail_slot<S: Read, W: Write>(
     slots: &mut [Option<Seat<Gathered<S>, W>>],
     index: usize,

@@ -15,18 +15,18 @@ returns-in-Turn-clause-changes g c came gone met =
       x.2,
       x.3,
       λ numbers given among gave.
-          gave_one _ _ c.args.slots.now c.actions.slots x.0 x.1 (length came) numbers x.3 c.in-Turn.due.index _ _ _ _ c.in-Turn.due.most given among (c.may_turn.ensures.is_open c.if-may_turn.true) met.counted (omega (arith, met.counted, x.2.counted, length-append came x.0))
+          gave_one _ _ c.args.slots.now c.actions.slots x.0 x.1 (length came) numbers x.3 c.in-Turn.due.index _ _ _ _ c.in-Turn.due.most given among (c.may_turn_in.ensures.is_open c.if-may_turn_in.true) met.counted (omega (arith, met.counted, x.2.counted, length-append came x.0))
           (omega (arith, c.if-self-gt0.true, c.actions.invariant.1)) gave,
     )
 
 pub returns-in-Turn-clause-within : goal.returns-in-Turn-clause-within
-returns-in-Turn-clause-within g c = (c.may_turn.ensures.is_open c.if-may_turn.true).0
+returns-in-Turn-clause-within g c = (c.may_turn_in.ensures.is_open c.if-may_turn_in.true).0
 
 pub returns-in-Turn-clause-due : goal.returns-in-Turn-clause-due
-returns-in-Turn-clause-due g c = c.may_turn.ensures.is_open c.if-may_turn.true
+returns-in-Turn-clause-due g c = c.may_turn_in.ensures.is_open c.if-may_turn_in.true
 
 pub returns-in-Turn-clause-settled : goal.returns-in-Turn-clause-settled
-returns-in-Turn-clause-settled g c = c.may_turn.ensures.settled c.if-may_turn.true
+returns-in-Turn-clause-settled g c = c.may_turn_in.ensures.settled c.if-may_turn_in.true
 
 pub returns-in-Turn-3-clause-changes : goal.returns-in-Turn-3-clause-changes
 returns-in-Turn-3-clause-changes g c came gone met =

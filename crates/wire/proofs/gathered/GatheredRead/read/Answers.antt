@@ -12,6 +12,20 @@ use Rattle.wire.proofs.gathered.GatheredRead.read.Goals as goal
 none_given : (n : ℕ) → n ≡ 0 → 0 < n → ⊥
 none_given n zero some = omega arith
 
+pub returns-in-Some : goal.returns-in-Some
+returns-in-Some g c = record {
+  bound = tt;
+  bytes = Keeps-refl _;
+  cut = λ _. refl;
+  first = λ whole _. absurd (whole c.in-Some.ensures.0);
+  then = λ _ _. refl;
+  failed = λ failed. failed;
+  kept = inl c.in-Some.ensures.0.1;
+  waits = λ _. refl;
+  hale = λ _. refl;
+  same = λ _. c.in-Some.ensures.1;
+}
+
 pub returns-then-not-is_empty : goal.returns-then-not-is_empty
 returns-then-not-is_empty g c =
     let remaining = g.S.Read.remaining in
@@ -35,8 +49,8 @@ returns-then-not-is_empty g c =
       same = tt;
     }
 
-pub returns-in-Some : goal.returns-in-Some
-returns-in-Some g c =
+pub returns-in-Some-2 : goal.returns-in-Some-2
+returns-in-Some-2 g c =
     let none = empty c.ahead.result.now (ahead_in c.args.self.now) c.if-not-is_empty.ensures c.ahead.ensures in
     record {
       bound = tt;

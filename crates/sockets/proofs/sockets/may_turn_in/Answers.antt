@@ -4,7 +4,7 @@ use Rattle.std.proofs.lemmas.Bool.{eqb-true}
 use Rattle.std.proofs.lemmas.List.{get_or_default, nil_from_length}
 use Rattle.wire.proofs.Ends.{none_of}
 use Rattle.sockets.proofs.Slotted.{if_there}
-use Rattle.sockets.proofs.sockets.may_turn.Goals as goal
+use Rattle.sockets.proofs.sockets.may_turn_in.Goals as goal
 
 pub returns-then-is_none-clause-is_open : goal.returns-then-is_none-clause-is_open
 returns-then-is_none-clause-is_open g c is =
@@ -19,4 +19,4 @@ pub returns-then-is_none-clause-settled : goal.returns-then-is_none-clause-settl
 returns-then-is_none-clause-settled g c is =
     let within : c.args.index < length c.args.slots.now = omega (arith, c.if-index-slots.false) in
     let at = get_or_default c.args.slots.now c.args.index None c.index-slots-index.result within ∙ (sym c.index-slots-index.is ∙ c.in-Some.is) in
-    if_there _ c.in-Some.seat _ at (c.is_settled.ensures is)
+    if_there _ c.in-Some.seat _ at (c.may_turn.ensures is)
