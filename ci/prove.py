@@ -50,7 +50,7 @@ MOST_MEMORY = 0.85
 WHOLE = 0.2
 # The program whose tests take long.
 TESTED = "drop"
-# How many other checks run while it is built, and by how much their priority is lower.
+# At least so many other checks run while it is built, and by how much their priority is lower.
 OTHERS, NICER = 2, 9
 # How often the line is written anew, in seconds, and the lines that are shown of a log that ends in a failure.
 EVERY, TAIL = 1, 40
@@ -183,10 +183,12 @@ class Lanes:
 
     def free(self, is_first):
         """How many processors more tasks for the tested program, or other tasks, may have."""
-        at_work = [(key, jobs) for key, _, jobs in self.running.values()]
-        is_building = any(map(is_for_program, [*self.left, *(key for key, _ in at_work)]))
-        most = self.all if is_first or not is_building else min(OTHERS, self.all)
-        return most - sum(jobs for key, jobs in at_work if is_for_program(key) == is_first)
+        jobs = {True: 0, False: 0}
+        for key, _, its_jobs in self.running.values():
+            jobs[is_for_program(key)] += its_jobs
+        is_building = jobs[True] or any(map(is_for_program, self.left))
+        most = self.all if is_first or not is_building else max(min(OTHERS, self.all), self.all - jobs[True])
+        return most - jobs[is_first]
 
     def needs(self, key, jobs):
         """The memory that the task takes with so many processors."""

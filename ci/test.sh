@@ -77,9 +77,11 @@ with_command objdump binutils
 pytest=(/usr/bin/python3 -B -m pytest)
 # These have folders and ports of their own, and measure nothing: they run in parallel, once all is proved, with less priority.
 beside=(ci/test_{memory,rows,replays,streams,machine,office,migrate,desk,respelled,lists,exports,interop,documents,guards,damage,changes}.py)
-# These measure time or memory, load the machine, or need all of it: they run one by one. They begin once `drop` is built, while
-# proofs of other crates go on with less priority.
-alone=(ci/test_{serve,kills,crowd,pace,stops,page,clerk,deploy,package}.py)
+# These measure time or memory, or load the machine: they run one by one. They begin once `drop` is built, while proofs of other
+# crates go on with less priority.
+alone=(ci/test_{serve,kills,crowd,pace,stops}.py)
+# These wait for a browser, or for a Debian that is made: they run one by one, at the same time.
+waiting=(ci/test_{page,clerk,deploy,package}.py)
 
 # Proves everything by the code of `rt ci`, first `drop`: then there is the file `built`.
 prove() {
@@ -96,13 +98,14 @@ SECONDS=0
 prove &
 proving=$!
 while is_building; do sleep 1; done
-(run one-by-one "${pytest[@]}" --shots "$work/shots" "${alone[@]}") &
+(run one-by-one "${pytest[@]}" "${alone[@]}") &
+(run in-browsers "${pytest[@]}" --shots "$work/shots" "${waiting[@]}" >/dev/null) &
 wait $proving
 (run side-by-side nice -n 10 "${pytest[@]}" -n "$(nproc)" "${beside[@]}") >/dev/null
 wait
-cat "$work/side-by-side.log"
+cat "$work"/{in-browsers,side-by-side}.log
 run drawings python3 -B ci/drawings.py --check
-for part in rt-ci one-by-one side-by-side drawings; do add $part; done
+for part in rt-ci one-by-one in-browsers side-by-side drawings; do add $part; done
 echo
 cat "$work/times"
 echo "$((SECONDS / 60)) min $((SECONDS % 60)) s in all"

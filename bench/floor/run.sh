@@ -1,7 +1,7 @@
 #!/usr/bin/env bash
-# Measures the least time that an upload and a fetch of 8 MiB can take with the kit: its `sha2` on the bytes, and its database
-# engine on the rows (`bench/engine`), with no HTTP, no signature and no socket. Both programs are proved and built in separate
-# folders.
+# Measures the least time that uploads of 1 and 8 MiB and a fetch can take with the kit: its `sha2` on the bytes, and its database
+# engine on the rows (`bench/engine`), with no HTTP, no signature and no socket; and the same by Python's `hashlib` and `sqlite3`.
+# Both programs are proved and built in separate folders.
 # Usage: run.sh [ROUNDS [FOLDER]]   (ROUNDS is 3 by default. FOLDER is outside of this repository and on a disk; the programs stay
 # there)
 set -u

@@ -43,6 +43,38 @@ fn refusing(alloc: Global, call: u64) -> Result<Cached, Fail> {
     Ok(Plain { inner })
 }
 
+// What is asked of a keeper.
+#[derive(Clone, Copy)]
+enum Asking {
+    Twice,
+    TheRest,
+    Changes,
+    OtherUploads,
+    WhatComes,
+    Uses,
+    Boxes,
+}
+
+// Asks this. Whether the answers are right.
+fn ask<K: Keeper>(keeper: &mut Plain<K>, what: Asking) -> Result<bool, Fail> {
+    match what {
+        Asking::Twice => tells_alike(keeper),
+        Asking::TheRest => tells_the_rest_alike(keeper),
+        Asking::Changes => tells_changes(keeper),
+        Asking::OtherUploads => follows_other_uploads(keeper),
+        Asking::WhatComes => tells_what_comes(keeper),
+        Asking::Uses => asks_for_uses(keeper),
+        Asking::Boxes => asks_for_boxes(keeper),
+    }
+}
+
+// Asks a cached keeper this. Whether the answers are right, and how many calls reach the inner keeper.
+fn asked(alloc: Global, what: Asking) -> Result<(bool, u64), Fail> {
+    let mut keeper = cached(alloc)?;
+    let is_right = ask(&mut keeper, what)?;
+    Ok((is_right, keeper.inner.into_inner().calls))
+}
+
 // The change that sets the three-byte file `a` of the box `in`.
 fn sets(number: u64) -> Change<'static> {
     Change::SetFile(NewFile {
@@ -57,7 +89,7 @@ fn sets(number: u64) -> Change<'static> {
 }
 
 // Asks for everything that can be cached, and returns the answers as numbers.
-fn ask_all(keeper: &mut Cached) -> Result<[u64; 6], Fail> {
+fn ask_all<K: Keeper>(keeper: &mut Plain<K>) -> Result<[u64; 6], Fail> {
     let office = keeper.settings()?;
     let key = keeper.key(b"lin")?.ok_or("no key")?;
     let may = keeper.may_use(b"lin", b"in")?;
@@ -77,7 +109,7 @@ fn ask_all(keeper: &mut Cached) -> Result<[u64; 6], Fail> {
 const CLOSES: u64 = 1_370_044_800;
 
 // Whether asking twice gives the same right answers.
-fn tells_alike(keeper: &mut Cached) -> Result<bool, Fail> {
+fn tells_alike<K: Keeper>(keeper: &mut Plain<K>) -> Result<bool, Fail> {
     let first = ask_all(keeper)?;
     let again = ask_all(keeper)?;
     Ok(first == [0, 0, 1, CLOSES, 0, 1] && again == first)
@@ -85,14 +117,14 @@ fn tells_alike(keeper: &mut Cached) -> Result<bool, Fail> {
 
 #[test]
 fn asks_once(rt: HostRuntime) -> Result<(), Fail> {
-    let mut keeper = cached(rt.alloc())?;
-    assert!(rt; tells_alike(&mut keeper)?);
-    assert_eq!(rt; keeper.inner.into_inner().calls, 6);
+    let (is_right, calls) = asked(rt.alloc(), Asking::Twice)?;
+    assert!(rt; is_right);
+    assert_eq!(rt; calls, 6);
     Ok(())
 }
 
 // Asks what the cache never answers: what does not exist, files, and what only the desk asks.
-fn ask_the_rest(keeper: &mut Cached) -> Result<bool, Fail> {
+fn ask_the_rest<K: Keeper>(keeper: &mut Plain<K>) -> Result<bool, Fail> {
     let is_none = keeper.key(b"eve")?.is_none()
         && keeper.box_row(b"none")?.is_none()
         && keeper.file(b"in", b"a")?.is_none()
@@ -107,24 +139,24 @@ fn ask_the_rest(keeper: &mut Cached) -> Result<bool, Fail> {
 }
 
 // Whether asking twice gives the same right answers.
-fn tells_the_rest_alike(keeper: &mut Cached) -> Result<bool, Fail> {
+fn tells_the_rest_alike<K: Keeper>(keeper: &mut Plain<K>) -> Result<bool, Fail> {
     Ok(ask_the_rest(keeper)? && ask_the_rest(keeper)?)
 }
 
 #[test]
 fn asks_for_the_rest_each_time(rt: HostRuntime) -> Result<(), Fail> {
-    let mut keeper = cached(rt.alloc())?;
-    assert!(rt; tells_the_rest_alike(&mut keeper)?);
-    assert_eq!(rt; keeper.inner.into_inner().calls, 20);
+    let (is_right, calls) = asked(rt.alloc(), Asking::TheRest)?;
+    assert!(rt; is_right);
+    assert_eq!(rt; calls, 20);
     Ok(())
 }
 
-fn command(keeper: &mut Cached, command: Command<'_>) -> Result<(), Fail> {
+fn command<K: Keeper>(keeper: &mut Plain<K>, command: Command<'_>) -> Result<(), Fail> {
     Ok(keeper.apply(&Change::Desk(command))?)
 }
 
 // Changes everything that can be cached. Whether the answers are right after each change.
-fn tells_changes(keeper: &mut Cached) -> Result<bool, Fail> {
+fn tells_changes<K: Keeper>(keeper: &mut Plain<K>) -> Result<bool, Fail> {
     let mut is_so = ask_all(keeper)? == [0, 0, 1, CLOSES, 0, 1];
     command(keeper, Command::SetAllowance { seconds: 900 })?;
     is_so &= ask_all(keeper)? == [900, 0, 1, CLOSES, 0, 1];
@@ -151,17 +183,19 @@ fn tells_changes(keeper: &mut Cached) -> Result<bool, Fail> {
 // asked for each time. After the upload the next number is known. The totals are not, because nobody asked for the old file.
 #[test]
 fn forgets_what_changed(rt: HostRuntime) -> Result<(), Fail> {
-    let mut keeper = cached(rt.alloc())?;
-    assert!(rt; tells_changes(&mut keeper)?);
-    assert_eq!(rt;
-        keeper.inner.into_inner().calls,
-        6 + 6 + 3 + 1 + 2 + 1 + 1 + 2 + 2
-    );
+    let (is_right, calls) = asked(rt.alloc(), Asking::Changes)?;
+    assert!(rt; is_right);
+    assert_eq!(rt; calls, 6 + 6 + 3 + 1 + 2 + 1 + 1 + 2 + 2);
     Ok(())
 }
 
 // Sets a file of the box `in` to these bytes. Returns the box's bytes and files, and the next number.
-fn put(keeper: &mut Cached, number: u64, name: &[u8], bytes: &[u8]) -> Result<[u64; 3], Fail>
+fn put<K: Keeper>(
+    keeper: &mut Plain<K>,
+    number: u64,
+    name: &[u8],
+    bytes: &[u8],
+) -> Result<[u64; 3], Fail>
     requires some { 1 ≤ length bytes.now }
     requires short { length bytes.now ≤ 65536 }
 {
@@ -181,7 +215,12 @@ fn put(keeper: &mut Cached, number: u64, name: &[u8], bytes: &[u8]) -> Result<[u
 }
 
 // The same, after asking for the old file's receipt as each upload does.
-fn upload(keeper: &mut Cached, number: u64, name: &[u8], bytes: &[u8]) -> Result<[u64; 3], Fail>
+fn upload<K: Keeper>(
+    keeper: &mut Plain<K>,
+    number: u64,
+    name: &[u8],
+    bytes: &[u8],
+) -> Result<[u64; 3], Fail>
     requires some { 1 ≤ length bytes.now }
     requires short { length bytes.now ≤ 65536 }
 {
@@ -190,7 +229,7 @@ fn upload(keeper: &mut Cached, number: u64, name: &[u8], bytes: &[u8]) -> Result
 }
 
 // Whether totals and next number are right after a new file, after longer and shorter bytes replace it, and after another file.
-fn follows_uploads(keeper: &mut Cached) -> Result<bool, Fail> {
+fn follows_uploads<K: Keeper>(keeper: &mut Plain<K>) -> Result<bool, Fail> {
     let _ = keeper.box_row(b"in")?;
     let _ = keeper.sizes(b"in")?;
     Ok(
@@ -215,7 +254,7 @@ fn asks_nothing_again_for_uploads(rt: HostRuntime) -> Result<(), Fail> {
 
 // Whether totals are right if the receipt asked for last is that of another file, in this box or in another one, or if none was
 // asked for since.
-fn follows_other_uploads(keeper: &mut Cached) -> Result<bool, Fail> {
+fn follows_other_uploads<K: Keeper>(keeper: &mut Plain<K>) -> Result<bool, Fail> {
     let _ = keeper.box_row(b"in")?;
     let mut is_so = upload(keeper, 1, b"a", b"abc")? == [3, 1, 2];
     let _ = keeper.file_receipt(b"in", b"b")?;
@@ -229,14 +268,14 @@ fn follows_other_uploads(keeper: &mut Cached) -> Result<bool, Fail> {
 // Then the totals are asked for again. So they are at the first upload, because nobody asked for them before.
 #[test]
 fn asks_for_totals_of_other_uploads(rt: HostRuntime) -> Result<(), Fail> {
-    let mut keeper = cached(rt.alloc())?;
-    assert!(rt; follows_other_uploads(&mut keeper)?);
-    assert_eq!(rt; keeper.inner.into_inner().calls, 1 + 5 + 5 + 5 + 4);
+    let (is_right, calls) = asked(rt.alloc(), Asking::OtherUploads)?;
+    assert!(rt; is_right);
+    assert_eq!(rt; calls, 1 + 5 + 5 + 5 + 4);
     Ok(())
 }
 
 // Asks for a key and a box that do not exist, and adds them. Whether they are found then.
-fn tells_what_comes(keeper: &mut Cached) -> Result<bool, Fail> {
+fn tells_what_comes<K: Keeper>(keeper: &mut Plain<K>) -> Result<bool, Fail> {
     let is_none = keeper.key(b"eve")?.is_none() && keeper.box_row(b"new")?.is_none();
     let row = settings(Mode::Replace, 7, 9);
     let (role, secret) = (Role::Clerk, b"third");
@@ -262,14 +301,14 @@ fn tells_what_comes(keeper: &mut Cached) -> Result<bool, Fail> {
 
 #[test]
 fn finds_what_comes(rt: HostRuntime) -> Result<(), Fail> {
-    let mut keeper = cached(rt.alloc())?;
-    assert!(rt; tells_what_comes(&mut keeper)?);
-    assert_eq!(rt; keeper.inner.into_inner().calls, 6);
+    let (is_right, calls) = asked(rt.alloc(), Asking::WhatComes)?;
+    assert!(rt; is_right);
+    assert_eq!(rt; calls, 6);
     Ok(())
 }
 
 // Asks twice for each of 17 boxes whether a key may use it. Whether it always may.
-fn asks_for_uses(keeper: &mut Cached) -> Result<bool, Fail> {
+fn asks_for_uses<K: Keeper>(keeper: &mut Plain<K>) -> Result<bool, Fail> {
     let mut may_all = keeper.key(b"lin")?.is_some();
     for number in 0..34_u8 {
         may_all &= keeper.may_use(b"lin", &[number % 17])?;
@@ -279,14 +318,14 @@ fn asks_for_uses(keeper: &mut Cached) -> Result<bool, Fail> {
 
 #[test]
 fn keeps_sixteen_uses_of_a_key(rt: HostRuntime) -> Result<(), Fail> {
-    let mut keeper = cached(rt.alloc())?;
-    assert!(rt; asks_for_uses(&mut keeper)?);
-    assert_eq!(rt; keeper.inner.into_inner().calls, 1 + 17 + 1);
+    let (is_right, calls) = asked(rt.alloc(), Asking::Uses)?;
+    assert!(rt; is_right);
+    assert_eq!(rt; calls, 1 + 17 + 1);
     Ok(())
 }
 
 // Adds 8193 boxes and asks for each one, then for the last and for the first again.
-fn asks_for_boxes(keeper: &mut Cached) -> Result<bool, Fail> {
+fn asks_for_boxes<K: Keeper>(keeper: &mut Plain<K>) -> Result<bool, Fail> {
     let row = settings(Mode::Replace, 7, 9);
     let mut are_all = true;
     for number in 0..8193_u32 {
@@ -302,14 +341,14 @@ fn asks_for_boxes(keeper: &mut Cached) -> Result<bool, Fail> {
 
 #[test]
 fn keeps_eight_thousand_boxes(rt: HostRuntime) -> Result<(), Fail> {
-    let mut keeper = cached(rt.alloc())?;
-    assert!(rt; asks_for_boxes(&mut keeper)?);
-    assert_eq!(rt; keeper.inner.into_inner().calls, 2 * 8193 + 1);
+    let (is_right, calls) = asked(rt.alloc(), Asking::Boxes)?;
+    assert!(rt; is_right);
+    assert_eq!(rt; calls, 2 * 8193 + 1);
     Ok(())
 }
 
 // Whether the answers before and after a refused change are the same.
-fn leaves_all(keeper: &mut Cached) -> Result<bool, Fail> {
+fn leaves_all<K: Keeper>(keeper: &mut Plain<K>) -> Result<bool, Fail> {
     let before = ask_all(keeper)?;
     keeper.stage_begin()?;
     keeper.stage(b"abc")?;
@@ -329,7 +368,7 @@ fn forgets_all_at_a_fault(rt: HostRuntime) -> Result<(), Fail> {
 }
 
 // One call of each kind that reaches the inner keeper even if everything is cached.
-fn one_call(keeper: &mut Cached, kind: u8) -> Result<(), KeepFault> {
+fn one_call<K: Keeper>(keeper: &mut Plain<K>, kind: u8) -> Result<(), KeepFault> {
     match kind {
         0 => keeper.key(b"eve").map(|_| ()),
         1 => keeper.may_use(b"eve", b"in").map(|_| ()),
@@ -349,14 +388,14 @@ fn one_call(keeper: &mut Cached, kind: u8) -> Result<(), KeepFault> {
 }
 
 // Whether the call of this kind, which is the seventh, fails, and the answers before and after it are the same.
-fn fails_at(keeper: &mut Cached, kind: u8) -> Result<bool, Fail> {
+fn fails_at<K: Keeper>(keeper: &mut Plain<K>, kind: u8) -> Result<bool, Fail> {
     let before = ask_all(keeper)?;
     let failed = one_call(keeper, kind) == Err(KeepFault::Store);
     Ok(failed && ask_all(keeper)? == before)
 }
 
 // The same for the first call of `settings` and of `next_number`, which are cached later.
-fn fails_first(keeper: &mut Cached, is_next: bool) -> Result<bool, Fail> {
+fn fails_first<K: Keeper>(keeper: &mut Plain<K>, is_next: bool) -> Result<bool, Fail> {
     let before = keeper.key(b"lin")?.is_some();
     let failed = if is_next {
         keeper.next_number() == Err(KeepFault::Store)

@@ -1,17 +1,18 @@
 //! A listener while the system has no descriptor left.
-use commands::serve;
+use crate::loopback::{asking, bound, peer_of};
+use boxes::Keeper;
+use commands::{Outcome, serve};
 use mio::Poll;
-use office::FixedClock;
+use office::{FixedClock, Office};
 use sigv4::Moment;
 use sockets::{Limits, Listener, TcpEnd, Unready};
 use std::alloc::Global;
 use std::io;
-use std::io::Write;
-use std::net::{Shutdown, TcpListener, TcpStream};
+use std::net::{TcpListener, TcpStream};
 use std::os::fd::{AsRawFd, RawFd};
 use std::test::Fail;
 use std::time::Duration;
-use trials::published::{DATE, REQUEST, make_office};
+use trials::published::{DATE, make_office};
 use wire::{Gathered, Outbox, Seat};
 
 /// The system's error number for "no descriptor left" (ENFILE).
@@ -86,46 +87,52 @@ impl Listener for Wanting {
     }
 }
 
-// One of eight idle connections is closed to free a descriptor. That does not help. So the next ones are closed a tenth of a
-// second apart, at most one per two calls, and not all at once.
-#[test]
-fn where_it_does_not_help_the_others_stay(rt: HostRuntime) -> Result<(), Fail> {
-    let inner = TcpListener::bind(&rt, "127.0.0.1:0")?;
+// Eight peers that have sent nothing yet.
+fn silent_peers(rt: &HostRuntime, listener: &TcpListener) -> Result<Vec<TcpStream>, Fail> {
     let mut silent = Vec::new(rt.alloc());
     for _ in 0..8 {
-        silent.push(TcpStream::connect(&rt, inner.local_addr()?)?)?;
+        silent.push(peer_of(rt, listener)?)?;
     }
-    let mut peer = TcpStream::connect(&rt, inner.local_addr()?)?;
-    peer.write_all(REQUEST)?;
-    peer.shutdown(Shutdown::Write)?;
+    Ok(silent)
+}
+
+// Serves nine connections. Returns the outcome, and how many were closed while accepting failed.
+fn served_in_want<K: Keeper>(
+    rt: &HostRuntime,
+    office: &mut Office<K>,
+    wanting: Wanting,
+) -> Result<(Outcome, u64), Fail> {
     let moment = Moment::read(DATE).ok_or("no moment")?;
-    let mut office = make_office(rt.alloc())?;
     let limits = Limits {
         connections: 9,
         patience: Some(Duration::from_secs(2)),
         open: 16,
         room: 64 << 20,
     };
+    let mut clock = FixedClock::new(moment);
+    let served = serve(rt, Poll::new(rt)?, office, wanting, limits, &mut clock);
+    Ok((served.outcome?, served.listener.gone))
+}
+
+// One of eight idle connections is closed to free a descriptor. That does not help. So the next ones are closed a tenth of a
+// second apart, at most one per two calls, and not all at once.
+#[test]
+fn where_it_does_not_help_the_others_stay(rt: HostRuntime) -> Result<(), Fail> {
+    let inner = bound(&rt)?;
+    let _silent = silent_peers(&rt, &inner)?;
+    let _peer = asking(&rt, &inner, 1)?;
+    let mut office = make_office(rt.alloc())?;
     let wanting = Wanting {
         inner,
         before: 8,
         fails: 6,
         gone: 0,
     };
-    let poll = Poll::new(&rt)?;
-    let served = serve(
-        &rt,
-        poll,
-        &mut office,
-        wanting,
-        limits,
-        &mut FixedClock::new(moment),
-    );
-    let outcome = served.outcome?;
+    let (outcome, gone) = served_in_want(&rt, &mut office, wanting)?;
     assert_eq!(rt; outcome.came, 9);
     assert_eq!(rt; outcome.refused, 0);
     assert!(rt; outcome.is_whole);
-    assert!(rt; served.listener.gone >= 1);
-    assert!(rt; served.listener.gone <= 3);
+    assert!(rt; gone >= 1);
+    assert!(rt; gone <= 3);
     Ok(())
 }

@@ -1,5 +1,6 @@
 //! Office files on disks in memory: a day over them, and requests with one refused call.
 use crate::days::a_day;
+use boxes::Keeper;
 use office::Office;
 use shelf::Shelf;
 use sqlite::{Alter, Connection, FileStore, Files, Options};
@@ -12,11 +13,21 @@ use trials::errands::{ERRANDS, Errand};
 use trials::published::{ID, SECRET};
 use trials::telling::{holds, told};
 
-// A trial of a new office file. Only `try_in_memory` names the type of its disks. To check a function that names a store takes
-// twenty times as long as to check a generic one.
+// A trial of a new office file. It does not name the keeper, and only `try_in_memory` names the type of its disks. To check a
+// function that names a store takes twenty times as long as to check a generic one.
 trait OfficeTrial {
     // Runs the trial. Whether it came to its end.
-    fn run<D: Disk + Drop>(self, office: Office<SqlKeeper<FileStore<D>>>) -> Result<bool, Fail>;
+    fn run<K: Keeper + Drop>(self, office: Office<K>) -> Result<bool, Fail>;
+}
+
+// The value of a result, or its error without what it leaves.
+fn value_or_fail<T: Drop, E: Into<Fail> + Drop, L: Drop>(
+    tried: Result<T, (E, L)>,
+) -> Result<T, Fail> {
+    match tried {
+        Ok(value) => Ok(value),
+        Err((error, _)) => Err(error.into()),
+    }
 }
 
 // Connects to empty files.
@@ -27,10 +38,7 @@ fn connect<D: Disk + Drop>(
     if !files.may_be_used() {
         return Err("no disk".into());
     }
-    match Connection::open_files(alloc, files, Options::new(7)) {
-        Ok(conn) => Ok(conn),
-        Err((error, _)) => Err(error.into()),
-    }
+    value_or_fail(Connection::open_files(alloc, files, Options::new(7)))
 }
 
 // A new office with only the clerk's key.
@@ -38,10 +46,17 @@ fn begun<S: Alter + Drop>(
     alloc: Global,
     conn: Connection<S>,
 ) -> Result<Office<SqlKeeper<S>>, Fail> {
-    match SqlKeeper::create(alloc, conn, office_row(0), ID, SECRET) {
-        Ok(keeper) => Ok(Office::new(alloc, keeper)),
-        Err((fault, _)) => Err(fault.into()),
-    }
+    let keeper = value_or_fail(SqlKeeper::create(alloc, conn, office_row(0), ID, SECRET))?;
+    Ok(Office::new(alloc, keeper))
+}
+
+// Runs a trial of a new office over this connection.
+fn try_over<S: Alter + Drop, T: OfficeTrial + Drop>(
+    alloc: Global,
+    conn: Connection<S>,
+    trial: T,
+) -> Result<bool, Fail> {
+    trial.run(begun(alloc, conn)?)
 }
 
 // Runs a trial of a new office in these files.
@@ -50,8 +65,7 @@ fn try_in<D: Disk + Drop, T: OfficeTrial + Drop>(
     files: Files<D>,
     trial: T,
 ) -> Result<bool, Fail> {
-    let conn = connect(alloc, files)?;
-    trial.run(begun(alloc, conn)?)
+    try_over(alloc, connect(alloc, files)?, trial)
 }
 
 // Runs a trial of a new office file in memory.
@@ -63,21 +77,27 @@ fn try_in_memory<T: OfficeTrial + Drop>(alloc: Global, trial: T) -> Result<bool,
     try_in(alloc, files, trial)
 }
 
+// A day with each of two keepers, which then answer the same.
+fn spend_a_day<K: Keeper, L: Keeper>(
+    alloc: Global,
+    one: &mut K,
+    other: &mut L,
+) -> Result<(), Fail> {
+    a_day(one)?;
+    a_day(other)?;
+    let same = told(alloc, one)? == told(alloc, other)?;
+    holds(same, "another day")
+}
+
 // A day in an office, which then answers as the keeper in memory.
 #[derive(Drop)]
 struct DayTrial;
 
 impl OfficeTrial for DayTrial {
-    fn run<D: Disk + Drop>(
-        self,
-        mut office: Office<SqlKeeper<FileStore<D>>>,
-    ) -> Result<bool, Fail> {
+    fn run<K: Keeper + Drop>(self, mut office: Office<K>) -> Result<bool, Fail> {
         let alloc = office.alloc;
         let mut shelf = Shelf::new(alloc, office_row(0), ID, SECRET)?;
-        a_day(&mut shelf)?;
-        a_day(&mut office.keeper)?;
-        let same = told(alloc, &mut shelf)? == told(alloc, &mut office.keeper)?;
-        holds(same, "another day")?;
+        spend_a_day(alloc, &mut shelf, &mut office.keeper)?;
         Ok(true)
     }
 }
@@ -90,7 +110,7 @@ struct CallTrial {
 }
 
 impl OfficeTrial for CallTrial {
-    fn run<D: Disk + Drop>(self, office: Office<SqlKeeper<FileStore<D>>>) -> Result<bool, Fail> {
+    fn run<K: Keeper + Drop>(self, office: Office<K>) -> Result<bool, Fail> {
         let Office { keeper, alloc, .. } = office;
         Ok(!self.errand.is_refused_at(alloc, keeper, self.call)?)
     }

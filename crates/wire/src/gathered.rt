@@ -1,5 +1,5 @@
 //! A reader whose bytes are read ahead, without waiting.
-ghost use Rattle.std.specs.Prelude.{◌≡◌, ◌≢◌, ◌↔◌, ◌⊎◌, ◌<◌, ◌≤◌, ◌+◌, ◌++◌, [], length, take, vec_capacity, vec_len, IfErr, IfOk, IsErr, IsFalse, IsOk, IsTrue, List, None, Some, ℕ};
+ghost use Rattle.std.specs.Prelude.{◌≡◌, ◌≢◌, ◌↔◌, ◌⊎◌, ◌<◌, ◌≤◌, ◌+◌, ◌++◌, [], false, length, take, vec_capacity, vec_len, IfErr, IfOk, IfSome, IsErr, IsFalse, IsOk, IsSome, IsTrue, List, None, Some, ℕ};
 ghost use Rattle.std.specs.Io.{ReadsAtMost};
 ghost use Rattle.std.specs.Io.KnownBytes.{Consumes, IsAtEnd, Keeps, ReadConsumes, prepend_known};
 ghost use Rattle.std.specs.IoError.{error_kind};

@@ -17,13 +17,13 @@ returns-in-Some g c = record {
   bound = tt;
   bytes = Keeps-refl _;
   cut = λ _. refl;
-  first = λ whole _. absurd (whole c.in-Some.ensures.0);
+  first = λ whole _. absurd (whole c.in-Some.ensures.some.0);
   then = λ _ _. refl;
   failed = λ failed. failed;
-  kept = inl c.in-Some.ensures.0.1;
+  kept = inl c.in-Some.ensures.some.0.1;
   waits = λ _. refl;
   hale = λ _. refl;
-  same = λ _. c.in-Some.ensures.1;
+  same = λ _. c.in-Some.ensures.some.1;
 }
 
 pub returns-then-not-is_empty : goal.returns-then-not-is_empty
@@ -40,7 +40,8 @@ returns-then-not-is_empty g c =
             (sym c.give.ensures.inner) (gave (remaining old.inner) (ahead_in old) (ahead_in new) _ c.give.ensures.given),
         λ zero room. absurd (none_given c.give.result zero (c.give.ensures.some some room)),
       );
-      first = λ _. refl;
+      cut = λ cut. absurd (none_failed c.cut.result (ap is_some c.in_default.is) (c.cut.ensures.cut cut));
+      first = λ _ _. refl;
       then = λ none _. absurd (some none);
       failed = λ failed. subst IsSome (sym c.give.ensures.fault) failed;
       kept = tt;
@@ -49,19 +50,20 @@ returns-then-not-is_empty g c =
       same = tt;
     }
 
-pub returns-in-Some-2 : goal.returns-in-Some-2
-returns-in-Some-2 g c =
+pub returns-in-Some-fault : goal.returns-in-Some-fault
+returns-in-Some-fault g c =
     let none = empty c.ahead.result.now (ahead_in c.args.self.now) c.if-not-is_empty.ensures c.ahead.ensures in
     record {
       bound = tt;
       bytes = Keeps-refl _;
-      first = λ some. absurd (some none);
+      cut = λ cut. absurd (none_failed c.cut.result (ap is_some c.in_default.is) (c.cut.ensures.cut cut));
+      first = λ _ some. absurd (some none);
       then = λ _ _. refl;
       failed = λ failed. failed;
-      kept = inl (subst IsSome (sym c.in-Some.is) refl);
+      kept = inl (subst IsSome (sym c.in-Some-fault.is) refl);
       waits = λ _. refl;
       hale = λ _. refl;
-      same = λ _. c.in-Some.is;
+      same = λ _. c.in-Some-fault.is;
     }
 
 pub returns-in-Err : goal.returns-in-Err
@@ -74,13 +76,14 @@ returns-in-Err g c =
     record {
       bound = tt;
       bytes = kept_ahead (remaining old.inner) (remaining new.inner) (ahead_in old) (ahead_in new) c.keep.ensures.ahead read;
-      first = λ some. absurd (some none);
+      cut = λ cut. absurd (none_failed c.cut.result (ap is_some c.in_default.is) (c.cut.ensures.cut cut));
+      first = λ _ some. absurd (some none);
       then = λ _ _. refl;
       failed = c.keep.ensures.failed;
       kept = c.keep.ensures.kept;
       waits = c.keep.ensures.waits;
       hale = λ ok. absurd (false≢true ok);
-      same = c.keep.ensures.told (none_failed old.fault (ap is_some c.in_default.is));
+      same = c.keep.ensures.told (none_failed old.fault (ap is_some c.in_default-fault.is));
     }
 
 pub returns-in_default-read : goal.returns-in_default-read
@@ -92,8 +95,9 @@ returns-in_default-read g c =
     record {
       bound = c.read-read.ensures.bound;
       bytes = reads_behind (remaining old.inner) (remaining c.read-read.new.self) (ahead_in old) c.read-read.result c.read-read.new.buf none c.read-read.ensures.bytes;
-      first = λ _. subst IsOk (sym is) refl;
-      then = λ _ failed. absurd (none_failed old.fault (ap is_some c.in_default.is) failed);
+      cut = λ cut. absurd (none_failed c.cut.result (ap is_some c.in_default.is) (c.cut.ensures.cut cut));
+      first = λ _ _. subst IsOk (sym is) refl;
+      then = λ _ failed. absurd (none_failed old.fault (ap is_some c.in_default-fault.is) failed);
       failed = λ failed. failed;
       kept = no_error _ _ _ is;
       waits = no_error _ _ _ is;
