@@ -6,6 +6,10 @@ use Rattle.std.specs.Io.KnownBytes.{Consumes, IsAtEnd, Keeps, ReadConsumes, prep
 use Rattle.std.proofs.lemmas.Bool.{false≢true}
 use Rattle.std.proofs.lemmas.Bool.Decides.{nat_tests}
 use Rattle.std.proofs.lemmas.List.{nil_from_length}
+use Rattle.std.specs.declared.io.Error.{Error}
+use Rattle.wire.specs.Gathering.{cut_by, error_of}
+use Rattle.wire.specs.declared.gathered.Health.{Health}
+use Rattle.wire.specs.declared.gathered.Health.TheVariants as health
 use Rattle.wire.proofs.Backlogs.{prepend-kept}
 
 -- ---- tests
@@ -18,6 +22,12 @@ empty xs ys test e = let none : length xs ≡ 0 = grind (arith, nat_tests) in sy
 
 pub none_failed : {T : Type 0} (o : Option T) → IsNone o → IsSome o → ⊥
 none_failed o none some = false≢true (sym none ∙ some)
+
+-- one that is cut off fails with the same error
+pub cut_fails : (h : Health) (e : Error) → cut_by h ≡ Some e → error_of h ≡ Some e
+cut_fails health.Hale e is = absurd cc
+cut_fails (health.Failed f) e is = absurd cc
+cut_fails (health.Cut f) e is = is
 
 pub no_error : {T E : Type 0} (r : Result T E) (x : T) (P : E → Type 0) → r ≡ Ok x → IfErr r P
 no_error {T} {E} r x P is = subst (λ (t : Result T E). IfErr t P) (sym is) tt

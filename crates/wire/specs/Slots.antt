@@ -3,7 +3,7 @@
 use Rattle.std.specs.Prelude.{◌≡◌, ◌≤◌, ◌↔◌, ℕ, ◌+◌, List, [], ◌++◌, length, IsOk, IsSome, Option, Result}
 use Rattle.std.specs.Io.KnownBytes.{Appends}
 use Rattle.wire.specs.Feeds.{ahead_of}
-use Rattle.wire.specs.Gathering.{HasFailed, HasRoomFor, IsCut, KeepsFault, ahead_in}
+use Rattle.wire.specs.Gathering.{HasFailed, HasRoomFor, IsCut, KeepsError, KeepsHealth, ahead_in}
 use Rattle.wire.specs.Gathering as gathering
 use Rattle.wire.specs.Outgoing.{NoneFailed, WriteFailed, waits_out}
 use Rattle.wire.specs.declared.gathered.Gathered.{Gathered}
@@ -21,17 +21,17 @@ pub record ReadsAhead {S W E : Type 0} (remaining : S → Option (List ℕ)) (n 
   pub most : length (ahead_in b.reader.inner) ≤ length (ahead_in a.reader.inner) + n
   pub room : HasRoomFor n a.reader.inner → IsOk result
 
--- What the feed read and did not take was put back if a buffer is returned, and no byte is lost. The fault is
--- unchanged.
+-- What the feed read and did not take was put back if a buffer is returned, and no byte is lost. Reads
+-- fail as before.
 abbrev pub PutsBack : {S W T : Type 0} → Seat (Gathered S) W → Seat (Gathered S) W → Option T → Type 0
 PutsBack a b result =
-    (ahead_of b.standing ++ ahead_in b.reader.inner ≡ ahead_of a.standing ++ ahead_in a.reader.inner) × (IsSome result → ahead_of b.standing ≡ []) × KeepsFault a.reader.inner b.reader.inner
+    (ahead_of b.standing ++ ahead_in b.reader.inner ≡ ahead_of a.standing ++ ahead_in a.reader.inner) × (IsSome result → ahead_of b.standing ≡ []) × KeepsHealth a.reader.inner b.reader.inner
 
--- Each read fails at once. If reads failed before, the fault is unchanged. The feed is unchanged.
+-- Each read fails at once. If reads failed before, the error is unchanged. The feed is unchanged.
 abbrev pub Fails : {S W : Type 0} → Seat (Gathered S) W → Seat (Gathered S) W → Type 0
 Fails a b =
     (b.standing ≡ a.standing) × (ahead_in b.reader.inner ≡ ahead_in a.reader.inner) × IsCut b.reader.inner
-    × (HasFailed a.reader.inner → KeepsFault a.reader.inner b.reader.inner)
+    × (HasFailed a.reader.inner → KeepsError a.reader.inner b.reader.inner)
 
 -- The first of the waiting bytes were sent. The result tells whether some still wait, or a write failed.
 pub record SendsOn {R S : Type 0} (contents : S → Option (List ℕ)) (a b : Seat R (Outbox S)) (result : Sending) : Type 0 where

@@ -9,9 +9,7 @@ use std::alloc::{AllocError, Global};
 use std::io;
 use std::io::{ErrorKind, Read};
 
-/// Gives the bytes that were read ahead, then those of its reader. After a failed read each later read, once
-/// those bytes are given, fails with the same error. A read that would only wait has not failed. Once it is cut
-/// off by `fail`, each read fails at once.
+/// Gives the bytes that were read ahead, then those of its reader. A read that would only wait has not failed.
 #[derive(Drop)]
 pub struct Gathered<S> {
     /// The reader. Its bytes follow those that were read ahead.
@@ -20,10 +18,44 @@ pub struct Gathered<S> {
     bytes: Vec<u8>,
     // The number of bytes that were already given.
     start: usize,
-    fault: Option<io::Error>,
-    // Whether the bytes that were read ahead are given no more.
-    is_cut: bool,
+    health: Health,
     ghost within: { start ≤ vec_len bytes },
+}
+
+/// Whether reads fail.
+#[derive(Clone, Copy, Debug)]
+pub enum Health {
+    /// No read failed.
+    Hale,
+    /// A read failed with this error. So does each later one, once the bytes that were read ahead are given.
+    Failed(io::Error),
+    /// `fail` was called. Each read fails at once, with this error: the bytes that were read ahead are given no
+    /// more.
+    Cut(io::Error),
+}
+
+impl Health {
+    ghost use Rattle.wire.specs.Gathering.{cut_by, error_of};
+
+    // The error with which reads fail, if they do.
+    fn error(self) -> Option<io::Error>
+        ensures { result ≡ error_of self }
+    {
+        match self {
+            Health::Hale => None,
+            Health::Failed(error) | Health::Cut(error) => Some(error),
+        }
+    }
+
+    // The error with which each read fails at once, if it does.
+    fn cut(self) -> Option<io::Error>
+        ensures { result ≡ cut_by self }
+    {
+        match self {
+            Health::Hale | Health::Failed(_) => None,
+            Health::Cut(error) => Some(error),
+        }
+    }
 }
 
 /// The result of reading ahead.
@@ -83,22 +115,20 @@ fn read_behind<S: Read>(bytes: &mut Vec<u8>, most: usize, reader: &mut S) -> io:
 }
 
 impl<S: Read> Gathered<S> {
-    ghost use Rattle.wire.specs.Gathering.{Gathers, HasFailed, HasRoomFor, IsCut, KeepsFault, ahead_in};
+    ghost use Rattle.wire.specs.Gathering.{Gathers, HasFailed, HasRoomFor, IsCut, KeepsError, KeepsHealth, ahead_in, error_of};
 
     /// Nothing was read ahead, and no memory is taken.
     pub fn new(alloc: Global, inner: S) -> Gathered<S>
         ensures inner { result.inner ≡ inner }
         ensures ahead { ahead_in result ≡ [] }
-        ensures hale { result.fault ≡ None }
-        ensures whole { result.is_cut ≡ false }
+        ensures hale { result.health ≡ Health.Hale }
     {
         Gathered {
             inner,
             alloc,
             bytes: Vec::new(alloc),
             start: 0,
-            fault: None,
-            is_cut: false,
+            health: Health::Hale,
         }
     }
 
@@ -118,10 +148,9 @@ impl<S: Read> Gathered<S> {
     pub fn gather(&mut self, most: usize) -> Result<Gathering, AllocError>
         ensures gathers { Gathers S.remaining self.old self.new result }
         ensures room { HasRoomFor most self.old → IsOk result }
-        ensures failed { HasFailed self.old → HasFailed self.new }
         ensures most { length (ahead_in self.new) ≤ length (ahead_in self.old) + most }
     {
-        if self.fault.is_some() {
+        if self.has_failed() {
             return Ok(Gathering::Failed);
         }
         self.move_to_front();
@@ -148,60 +177,50 @@ impl<S: Read> Gathered<S> {
     pub fn has_failed(&self) -> bool
         ensures { IsTrue result ↔ HasFailed self.now }
     {
-        self.fault.is_some()
+        self.health.error().is_some()
     }
 
     /// Whether `fail` was called. Each read fails at once then.
     pub fn is_cut(&self) -> bool
         ensures { IsTrue result ↔ IsCut self.now }
     {
-        self.is_cut && self.has_failed()
+        self.health.cut().is_some()
     }
 
     /// Makes each read fail at once, with this error or an earlier one: the bytes that were read ahead are given
     /// no more.
     pub fn fail(&mut self, error: io::Error)
         ensures failed { IsCut self.new }
-        ensures told { ¬ HasFailed self.old → self.new.fault ≡ Some error }
-        ensures first { HasFailed self.old → self.new.fault ≡ self.old.fault }
+        ensures told { ¬ HasFailed self.old → error_of self.new.health ≡ Some error }
+        ensures first { HasFailed self.old → KeepsError self.old self.new }
         ensures ahead { ahead_in self.new ≡ ahead_in self.old }
         ensures inner { self.new.inner ≡ self.old.inner }
     {
-        self.note(error);
-        self.is_cut = true;
+        self.health = Health::Cut(self.health.error().unwrap_or(error));
     }
 
     // Makes each read fail with this error, once the bytes that were read ahead are given. An earlier error
     // stays.
     fn note(&mut self, error: io::Error)
         ensures failed { HasFailed self.new }
-        ensures told { ¬ HasFailed self.old → self.new.fault ≡ Some error }
-        ensures first { HasFailed self.old → self.new.fault ≡ self.old.fault }
+        ensures told { ¬ HasFailed self.old → self.new.health ≡ Health.Failed error }
+        ensures first { HasFailed self.old → KeepsHealth self.old self.new }
+        ensures uncut { IsCut self.new → IsCut self.old }
         ensures ahead { ahead_in self.new ≡ ahead_in self.old }
         ensures inner { self.new.inner ≡ self.old.inner }
     {
-        if self.fault.is_none() {
-            self.fault = Some(error);
+        if let Health::Hale = self.health {
+            self.health = Health::Failed(error);
         }
-    }
-
-    // The error with which a read fails at once, if it does.
-    fn cut(&self) -> Option<io::Error>
-        ensures cut { IsCut self.now → IsSome result }
-        ensures some { IfSome result (λ e. IsCut self.now × (self.now.fault ≡ Some e)) }
-    {
-        if self.is_cut {
-            return self.fault;
-        }
-        None
     }
 
     // Keeps the error of a failed read, unless the read would only wait. An earlier error stays.
     fn keep(&mut self, error: io::Error)
         ensures kept { HasFailed self.new ⊎ (error_kind error ≡ ErrorKind.WouldBlock) }
-        ensures waits { error_kind error ≡ ErrorKind.WouldBlock → KeepsFault self.old self.new }
-        ensures told { ¬ HasFailed self.old → HasFailed self.new → self.new.fault ≡ Some error }
-        ensures failed { HasFailed self.old → HasFailed self.new }
+        ensures waits { error_kind error ≡ ErrorKind.WouldBlock → KeepsHealth self.old self.new }
+        ensures told { ¬ HasFailed self.old → HasFailed self.new → error_of self.new.health ≡ Some error }
+        ensures first { HasFailed self.old → KeepsHealth self.old self.new }
+        ensures uncut { IsCut self.new → IsCut self.old }
         ensures ahead { ahead_in self.new ≡ ahead_in self.old }
         ensures inner { self.new.inner ≡ self.old.inner }
     {
@@ -216,7 +235,7 @@ impl<S: Read> Gathered<S> {
         ensures capacity { vec_capacity self.new.bytes ≡ vec_capacity self.old.bytes }
         ensures ahead { ahead_in self.new ≡ ahead_in self.old }
         ensures inner { self.new.inner ≡ self.old.inner }
-        ensures fault { self.new.fault ≡ self.old.fault }
+        ensures health { KeepsHealth self.old self.new }
     {
         drop_front(&mut self.bytes, self.start);
         self.start = 0;
@@ -226,7 +245,7 @@ impl<S: Read> Gathered<S> {
     pub fn let_go(&mut self)
         ensures ahead { ahead_in self.new ≡ ahead_in self.old }
         ensures inner { self.new.inner ≡ self.old.inner }
-        ensures fault { self.new.fault ≡ self.old.fault }
+        ensures health { KeepsHealth self.old self.new }
     {
         if self.ahead().is_empty() {
             self.bytes = Vec::new(self.alloc);
@@ -240,7 +259,7 @@ impl<S: Read> Gathered<S> {
         ensures put { IsTrue result → ahead_in self.new ≡ bytes.now ++ ahead_in self.old }
         ensures kept { IsFalse result → ahead_in self.new ≡ ahead_in self.old }
         ensures inner { self.new.inner ≡ self.old.inner }
-        ensures fault { self.new.fault ≡ self.old.fault }
+        ensures health { KeepsHealth self.old self.new }
     {
         if bytes.len() > self.start {
             return false;
@@ -257,7 +276,7 @@ impl<S: Read> Gathered<S> {
         ensures given { ahead_in self.old ≡ take result buf.new ++ ahead_in self.new }
         ensures some { ahead_in self.old ≢ [] → 0 < length buf.new → 0 < result }
         ensures inner { self.new.inner ≡ self.old.inner }
-        ensures fault { self.new.fault ≡ self.old.fault }
+        ensures health { KeepsHealth self.old self.new }
     {
         let n = self.ahead().len().min(buf.len());
         buf[..n].copy_from_slice(&self.ahead()[..n]);
@@ -267,7 +286,7 @@ impl<S: Read> Gathered<S> {
 }
 
 impl<S: Read> Read for Gathered<S> {
-    ghost use Rattle.wire.specs.Gathering.{HasFailed, IsCut, KeepsFault, ahead_in};
+    ghost use Rattle.wire.specs.Gathering.{HasFailed, IsCut, KeepsHealth, ahead_in, error_of};
 
     ghost remaining = { λ gathered. prepend_known (ahead_in gathered) (S.remaining gathered.inner) };
 
@@ -278,19 +297,20 @@ impl<S: Read> Read for Gathered<S> {
         ensures cut { IsCut self.old → IsErr result }
         ensures first { ¬ IsCut self.old → ahead_in self.old ≢ [] → IsOk result }
         ensures then { ahead_in self.old ≡ [] → HasFailed self.old → IsErr result }
-        ensures failed { HasFailed self.old → HasFailed self.new }
+        ensures failed { HasFailed self.old → KeepsHealth self.old self.new }
+        ensures uncut { IsCut self.new → IsCut self.old }
         ensures kept { IfErr result (λ e. HasFailed self.new ⊎ (error_kind e ≡ ErrorKind.WouldBlock)) }
-        ensures waits { IfErr result (λ e. error_kind e ≡ ErrorKind.WouldBlock → KeepsFault self.old self.new) }
-        ensures hale { IsOk result → KeepsFault self.old self.new }
-        ensures same { IfErr result (λ e. HasFailed self.new → self.new.fault ≡ Some e) }
+        ensures waits { IfErr result (λ e. error_kind e ≡ ErrorKind.WouldBlock → KeepsHealth self.old self.new) }
+        ensures hale { IsOk result → KeepsHealth self.old self.new }
+        ensures same { IfErr result (λ e. HasFailed self.new → error_of self.new.health ≡ Some e) }
     {
-        if let Some(error) = self.cut() {
+        if let Some(error) = self.health.cut() {
             return Err(error);
         }
         if !self.ahead().is_empty() {
             return Ok(self.give(buf));
         }
-        if let Some(error) = self.fault {
+        if let Some(error) = self.health.error() {
             return Err(error);
         }
         let read = self.inner.read(buf);

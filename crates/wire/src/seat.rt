@@ -114,7 +114,7 @@ impl<R, W> Seat<R, W> {
 
 impl<S: Read, W> Seat<Gathered<S>, W> {
     ghost use Rattle.std.specs.Prelude.{◌+◌, ◌++◌, IsOk, IsSome};
-    ghost use Rattle.wire.specs.Gathering.{Gathers as ReadsAhead, HasFailed, HasRoomFor, IsCut, KeepsFault, ahead_in};
+    ghost use Rattle.wire.specs.Gathering.{Gathers as ReadsAhead, HasFailed, HasRoomFor, IsCut, KeepsError, KeepsHealth, ahead_in};
     ghost use Rattle.wire.specs.Feeds.{ahead_of};
     ghost use Rattle.wire.specs.Seats.{Gathers};
 
@@ -139,7 +139,7 @@ impl<S: Read, W> Seat<Gathered<S>, W> {
         ensures ahead { ahead_in self.new.reader.inner ≡ ahead_in self.old.reader.inner }
         ensures failed { IsCut self.new.reader.inner }
         ensures first { HasFailed self.old.reader.inner
-            → KeepsFault self.old.reader.inner self.new.reader.inner }
+            → KeepsError self.old.reader.inner self.new.reader.inner }
     {
         self.reader.inner.fail(error);
     }
@@ -151,7 +151,7 @@ impl<S: Read, W> Seat<Gathered<S>, W> {
         ensures kept { ahead_of self.new.standing ++ ahead_in self.new.reader.inner
             ≡ ahead_of self.old.standing ++ ahead_in self.old.reader.inner }
         ensures back { IsSome result → ahead_of self.new.standing ≡ [] }
-        ensures fault { KeepsFault self.old.reader.inner self.new.reader.inner }
+        ensures health { KeepsHealth self.old.reader.inner self.new.reader.inner }
     {
         let room = self.standing.give_back(&mut self.reader.inner);
         self.reader.inner.let_go();
