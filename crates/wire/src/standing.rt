@@ -114,7 +114,7 @@ pub(crate) struct Joined {
 impl Standing {
     ghost use Rattle.std.specs.Prelude.{◌++◌, IsSome};
     ghost use Rattle.wire.specs.Feeds.{ahead_of, given_before, pieces_in, stood_at};
-    ghost use Rattle.wire.specs.Gathering.{ahead_in};
+    ghost use Rattle.wire.specs.Gathering.{KeepsHealth, ahead_in};
 
     /// A feed that has read nothing yet. It takes no memory.
     pub fn new(alloc: Global) -> Standing
@@ -152,7 +152,7 @@ impl Standing {
         ensures kept { ahead_of self.new ++ ahead_in reader.new ≡ ahead_of self.old ++ ahead_in reader.old }
         ensures back { IsSome result → ahead_of self.new ≡ [] }
         ensures inner { reader.new.inner ≡ reader.old.inner }
-        ensures fault { reader.new.fault ≡ reader.old.fault }
+        ensures health { KeepsHealth reader.old reader.new }
     {
         if !reader.put_back(self.backlog.waiting()) {
             return None;
