@@ -5,7 +5,7 @@ It runs after `rt ci`, over the libraries that `rt ci` leaves. Only a proved cra
 the edits and runs the checks.
 
 A check looks at the functions that its edits name and at the lemmas of their proofs (`--only`). The functions that they call
-are taken at their contracts, which `rt ci` proves: a hole stands for each of their proofs (`--allow-holes`).
+are taken at their contracts, which `rt ci` proves: a hole stands for each of their proofs that has a file (`--allow-holes`).
 Edits of the bodies of different functions share a check, since callers see only contracts. In a shared check an edit counts
 as refused only if its own function is refused, for its own goals or for a name. An edit that is not settled this way is tried
 alone, and so are edits of constants, types and specs. An edit that names no function is tried over the whole crate, by the
@@ -67,9 +67,6 @@ HOLE = "use Rattle.{place}.Statement.{{statement}}\n\npub {name}_spec : {{M : Ty
 SHARE = 0.5
 # The share of the free memory that checks may take.
 MOST_MEMORY = 0.85
-# A proof in the list of a library's modules, and what the place of a closure's proof contains.
-PROOF = re.compile(r'^\["proofs/([^"]+)/Proof",', re.M)
-IS_OF_A_CLOSURE = re.compile(r"\+Fn(?:Mut|Once)?(?:/|$)|(?:^|/)fn/")
 HEAD = re.compile(r"^( *)(?:pub(?:\([^)]*\))? )?(?:final )?fn (\w+)", re.M)
 VERDICT = re.compile(r"^fn (\S+): (.*)$")
 # A goal that a check left open: its text, and its name.
@@ -214,24 +211,15 @@ def edits_in(folder, crate, count, is_harmless=False):
     return edits
 
 
-def places_of_proofs(crate):
-    """Where the proofs of the crate's functions stand, or would if they had files: below `proofs`, as its library lists them. It
-    also lists closures, which are left out: their proofs belong to the functions around them."""
-    listed = pathlib.Path(crate.rlib, "toolchain", "made.json").read_text(encoding="utf-8")
-    return [it for it in PROOF.findall(listed) if not IS_OF_A_CLOSURE.search(it)]
-
-
 def with_holes(crate, functions, folder):
-    """A copy of the crate in this folder, with a hole for the proof of each function but these."""
+    """A copy of the crate in this folder, with a hole for each function's proof that has a file, but for these functions."""
     shutil.copytree(crate.folder, folder, ignore=shutil.ignore_patterns("edits", "out"))
     proofs = pathlib.Path(folder, "proofs")
-    with_files = {str(it.parent.relative_to(proofs)) for name in PROOF_FILES for it in proofs.rglob(name)}
-    for at in with_files.union(places_of_proofs(crate)):
-        place, parts = proofs / at, at.split("/")
+    for place in {it.parent for name in PROOF_FILES for it in proofs.rglob(name)}:
+        parts = place.relative_to(proofs).parts
         if "::".join([crate.name, *parts]) not in functions:
             for name in PROOF_FILES:
                 (place / name).unlink(missing_ok=True)
-            place.mkdir(parents=True, exist_ok=True)
             hole = HOLE.format(place=".".join([crate.name, "proofs", *parts]), name=place.name)
             (place / "Proof.antt").write_text(hole, encoding="utf-8")
     holed = copy.copy(crate)
