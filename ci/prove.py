@@ -9,7 +9,7 @@ The code of `rt` does the work, and its counts are the last line. Four things ar
   FILE`, that file is made once `drop` is built, so that its tests can begin. Of both kinds those come first that have the most
   work behind them, by the seconds in ci/seconds.txt. `rt` counts lines.
 - Several processors take a quarter more time together than one takes alone. So a check has more than one only where no other
-  check of its kind could begin on them.
+  check of its kind could begin on them, and only as many as let the last check end first, by the seconds in ci/seconds.txt.
 - With `--program`, Rattle's own compiler builds the program, which stays in `crates/NAME/out`. It takes half as long as LLVM, whose
   program is a tenth faster. Without, both build it at the same time, and `rt` compares what both programs write.
 
@@ -163,7 +163,7 @@ class Lanes:
                       # on Linux this is the priority of a thread and of the processes that it makes
                       False: concurrent.futures.ThreadPoolExecutor(len(tasks), initializer=os.nice, initargs=[NICER])}
         self.memory = MOST_MEMORY * RT.free()
-        self.left, self.running = [it for it in in_order(tasks) if tasks[it][1]], {}
+        self.left, self.running, self.began = [it for it in in_order(tasks) if tasks[it][1]], {}, {}
         # a crate without tests has a task for them all the same, with no seconds
         self.given = {it: NOTHING.get(it[1], True) for it in tasks if not tasks[it][1]}
 
@@ -171,7 +171,7 @@ class Lanes:
         """Begins the tasks for which there is room."""
         for is_first in [True, False]:
             left = [it for it in self.left if is_for_program(it) == is_first]
-            for key, jobs in next_tasks(self.tasks, left, self.given, self.free(is_first)):
+            for key, jobs in best_tasks(self.tasks, left, self.given, self.seconds_left(is_first), self.free(is_first)):
                 while jobs > 1 and self.needs(key, jobs) > self.memory:
                     jobs -= 1
                 needs = self.needs(key, jobs)
@@ -180,6 +180,12 @@ class Lanes:
                 self.left.remove(key)
                 self.memory -= needs
                 self.running[self.pools[is_first].submit(self.tasks[key][3], self.given, jobs)] = key, needs, jobs
+                self.began[key] = time.monotonic()
+
+    def seconds_left(self, is_first):
+        """The tasks of this kind that run, each with its processors and how many seconds it will still take."""
+        now, at_work = time.monotonic(), [(key, jobs) for key, _, jobs in self.running.values() if is_for_program(key) == is_first]
+        return [(max(1, seconds_with(self.tasks, key, jobs) - (now - self.began[key])), key, jobs) for key, jobs in at_work]
 
     def free(self, is_first):
         """How many processors more tasks for the tested program, or other tasks, may have."""
@@ -226,14 +232,45 @@ def next_tasks(tasks, left, given, free):
     return [(it, 1 if at else 1 + free - len(ready)) for at, it in enumerate(ready)]
 
 
+def best_tasks(tasks, left, given, running, free):
+    """The tasks to begin now on the free processors, each with how many of them it has: the first has as many as let the last one
+    end first, if those that follow begin as `next_tasks` has it. `running` has those of the same kind."""
+    begun = next_tasks(tasks, left, given, free)
+    if not begun:
+        return begun
+    (first, _), *rest = begun
+    at_work = {key for _, key, _ in running}
+    lanes = free + sum(jobs for _, _, jobs in running)
+    elsewhere = {it for it in tasks if it not in left and it not in at_work}
+
+    def end(way):
+        beginning = [(seconds_with(tasks, key, jobs), key, jobs) for key, jobs in way]
+        behind = [it for it in left if it not in dict(way)]
+        return simulated(tasks, behind, elsewhere, lanes, [*running, *beginning])
+
+    ways = [[(first, jobs), *((key, 1) for key, _ in rest[:free - jobs])] for jobs in range(1, free + 1)]
+    return min(ways, key=end)
+
+
+def seconds_with(tasks, key, jobs):
+    """How many seconds the task takes with so many processors."""
+    return tasks[key][1] * (1 - PARALLEL + PARALLEL / jobs)
+
+
 def expected(tasks, lanes):
     """How many seconds the tasks will take on so many processors."""
-    left, given = [it for it in in_order(tasks) if tasks[it][1]], {it for it in tasks if not tasks[it][1]}
-    now, running = 0, []
+    left = [it for it in in_order(tasks) if tasks[it][1]]
+    return simulated(tasks, left, {it for it in tasks if not tasks[it][1]}, lanes, [])
+
+
+def simulated(tasks, left, given, lanes, running):
+    """How many seconds these tasks will take on so many processors, of which some run already."""
+    left, given, running, now = [*left], {*given}, [*running], 0
+    heapq.heapify(running)
     while left or running:
         for key, jobs in next_tasks(tasks, left, given, lanes - sum(it[2] for it in running)):
             left.remove(key)
-            heapq.heappush(running, (now + tasks[key][1] * (1 - PARALLEL + PARALLEL / jobs), key, jobs))
+            heapq.heappush(running, (now + seconds_with(tasks, key, jobs), key, jobs))
         now, key, _ = heapq.heappop(running)
         given.add(key)
     return now
