@@ -23,7 +23,7 @@ use Rattle.wire.proofs.Ties.{none_is, some_is}
 use Rattle.office.proofs.Told.{if_answer}
 use Rattle.office.specs.Responding.{IfAnswer, TellsReading}
 use Rattle.office.specs.Seats.{LacksRest}
-use Rattle.office.specs.Stepping.{AwaitsMore, StepsBy, WaitsBehind}
+use Rattle.office.specs.Stepping.{AwaitsMore, StepsBy, WaitsBehind, WaitsIn}
 use Rattle.office.specs.Turning.{StandsAside, TurnsTo}
 use Rattle.office.specs.declared.connections.responding.Response.{Response}
 use Rattle.office.specs.declared.connections.responding.Response.TheVariants as response
@@ -173,5 +173,5 @@ pub none_there : {R : Type 0} (feed : Feed R) (block : List ℕ) (o : Option Beg
 none_there feed block o is waits = subst (λ (x : Option Begun). WaitsBehind feed block x) is waits
 
 pub begun_there : {R : Type 0} (feed : Feed R) (block : List ℕ) (o : Option Begun) (b : Begun) → o ≡ Some b → WaitsBehind feed block o
-    → (b.len ≤ most_head) × IsBegun (take b.len block) b.size b.kept (place_of feed) (given_of feed) × AwaitsMore (take b.len block) feed
+    → (b.len ≤ most_head) × WaitsIn feed (take b.len block) b.size b.kept
 begun_there feed block o b is waits = subst (λ (x : Option Begun). WaitsBehind feed block x) is waits

@@ -22,11 +22,13 @@ use Rattle.office.proofs.Told.{by_after, gives_up_later}
 read_in : {R : Type 0} (remaining : R → Option (List ℕ)) (known : Option (List ℕ)) (feed : Feed R) (head block : List ℕ) (len : ℕ) (begun : Option Begun) → take len block ≡ head → take len head ≡ head
     → HasHeadOf len begun → ReadsOn remaining known feed head begun → ReadsOn remaining known feed block begun
 read_in remaining known feed head block len None at all long r = r
-read_in remaining known feed head block len (Some b) at all long (short, is, kept) =
+read_in remaining known feed head block len (Some b) at all long (short, (is, kept)) =
     let same : take b.len head ≡ take b.len block = ap (λ (n : ℕ). take n head) long ∙ all ∙ sym at ∙ ap (λ (n : ℕ). take n block) (sym long) in (
       short,
-      subst (λ (text : List ℕ). IsBegun text b.size b.kept (place_of feed) (given_of feed)) same is,
-      subst (λ (text : List ℕ). Keeps known (prepend_known text (whole_left remaining feed))) same kept,
+      (
+          subst (λ (text : List ℕ). IsBegun text b.size b.kept (place_of feed) (given_of feed)) same is,
+          subst (λ (text : List ℕ). Keeps known (prepend_known text (whole_left remaining feed))) same kept,
+      ),
     )
 
 -- a feed that waits behind a head waits behind the block whose front it is
@@ -34,9 +36,9 @@ pub waits_in_block : {R : Type 0} (feed : Feed R) (head block : List ℕ) (len :
     → IfWaits (WaitsBehind feed head) result → IfWaits (WaitsBehind feed block) result
 waits_in_block feed head block len (stepped.Done x) at all long w = w
 waits_in_block feed head block len (stepped.Waits None) at all long w = w
-waits_in_block feed head block len (stepped.Waits (Some b)) at all long (short, is, more) =
+waits_in_block feed head block len (stepped.Waits (Some b)) at all long (short, (is, more)) =
     let same : take b.len head ≡ take b.len block = ap (λ (n : ℕ). take n head) long ∙ all ∙ sym at ∙ ap (λ (n : ℕ). take n block) (sym long) in
-    (short, subst (λ (text : List ℕ). IsBegun text b.size b.kept (place_of feed) (given_of feed)) same is, subst (λ (text : List ℕ). AwaitsMore text feed) same more)
+    (short, (subst (λ (text : List ℕ). IsBegun text b.size b.kept (place_of feed) (given_of feed)) same is, subst (λ (text : List ℕ). AwaitsMore text feed) same more))
 
 module _ {C K R : Type 0} (gives : C → ℕ → C → Type 0) (p : Place) (known : Option (List ℕ)) (remaining : R → Option (List ℕ)) (feed : Feed R) (clock clock' : C) (k : Ghosts K) where
   pub steps_in : (keeper keeper' : K) (s : State) (head block : List ℕ) (len : ℕ) (result : Stepped (Option Begun)) → take len block ≡ head → take len head ≡ head → IfWaits (HasHeadOf len) result

@@ -52,7 +52,7 @@ impl<K: Keeper> Office<K> {
     ) -> Aside
         requires begins { MayBegin (stood_at standing) }
         requires none { given_before standing ≡ [] }
-        ensures turns { TurnsAside C.now_gives R.remaining None standing due.most reader.old reader.new
+        ensures { TurnsAside C.now_gives R.remaining None standing due.most reader.old reader.new
             clock.old clock.new K.Keeper self.old.keeper self.new.keeper result }
     {
         let Due {
@@ -109,7 +109,7 @@ impl<K: Keeper> Office<K> {
         clock: &mut C,
     ) -> Aside
         requires { IsUnderway underway standing }
-        ensures turns { TurnsAside C.now_gives R.remaining (Some underway) standing due.most reader.old reader.new
+        ensures { TurnsAside C.now_gives R.remaining (Some underway) standing due.most reader.old reader.new
             clock.old clock.new K.Keeper self.old.keeper self.new.keeper result }
     {
         let Due {
@@ -154,7 +154,7 @@ impl<K: Keeper> Office<K> {
         requires begins { underway ≡ None → MayBegin (stood_at standing) }
         requires none { underway ≡ None → given_before standing ≡ [] }
         requires goes_on { ForSome underway (λ u. IsUnderway u standing) }
-        ensures turns { TurnsAside C.now_gives R.remaining underway standing due.most reader.old reader.new
+        ensures { TurnsAside C.now_gives R.remaining underway standing due.most reader.old reader.new
             clock.old clock.new K.Keeper self.old.keeper self.new.keeper result }
     {
         match underway {
@@ -212,9 +212,9 @@ impl<K: Keeper> Office<K> {
         seat.end = respond(&response, &mut seat.writer);
         if seat.end.is_none() {
             seat.served += 1;
-        } else {
-            spare.take_back(seat.standing.let_go());
+            return spare;
         }
+        spare.take_back(seat.standing.let_go());
         spare
     }
 }

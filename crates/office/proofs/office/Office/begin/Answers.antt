@@ -20,8 +20,8 @@ pub invariant_of-result : goal.invariant_of-result
 invariant_of-result g c =
     record { short = (begun_there c.step-stepped.new.feed c.step-stepped.new.block c.in-Waits-Some.field-0 c.in-Waits-Some.field-0-0 c.in-Waits-Some.field-0-is c.in-Waits-Some.ensures.stands).0 }
 
-pub returns-in-Done-clause-turns : goal.returns-in-Done-clause-turns
-returns-in-Done-clause-turns g c =
+pub returns-in-Done : goal.returns-in-Done
+returns-in-Done g c =
     let remaining = g.R.Read.remaining in
     let feed = c.step-stepped.new.feed in
     let first : HasSame c.resume-feed.result c.args.standing c.args.reader.now = record { ahead = c.resume-feed.ensures.waiting; given = c.resume-feed.ensures.given; read_by = c.resume-feed.ensures.reader } in
@@ -43,8 +43,8 @@ returns-in-Done-clause-turns g c =
       rest = c.in-Done.ensures.rest;
     }
 
-pub returns-in-Waits-None-clause-turns : goal.returns-in-Waits-None-clause-turns
-returns-in-Waits-None-clause-turns g c =
+pub returns-in-Waits-None : goal.returns-in-Waits-None
+returns-in-Waits-None g c =
     let remaining = g.R.Read.remaining in
     let feed = c.step-stepped.new.feed in
     let first : HasSame c.resume-feed.result c.args.standing c.args.reader.now = record { ahead = c.resume-feed.ensures.waiting; given = c.resume-feed.ensures.given; read_by = c.resume-feed.ensures.reader } in
@@ -68,8 +68,8 @@ returns-in-Waits-None-clause-turns g c =
       rest = c.in-Waits-None.ensures.rest;
     }
 
-pub returns-in-Waits-Some-clause-turns : goal.returns-in-Waits-Some-clause-turns
-returns-in-Waits-Some-clause-turns g c =
+pub returns-in-Waits-Some : goal.returns-in-Waits-Some
+returns-in-Waits-Some g c =
     let remaining = g.R.Read.remaining in
     let feed = c.step-stepped.new.feed in
     let block = c.step-stepped.new.block in
@@ -84,15 +84,15 @@ returns-in-Waits-Some-clause-turns g c =
         λ u at.
             let same = some_is _ u at in
             begun_aside_as feed c.set_aside-standing.result.0 block c.in-Waits-Some.field-0-0 u (sym (ap (λ (w : Underway). w.text.value) same)) (sym (ap (λ (w : Underway). w.len) same))
-            (sym (ap (λ (w : Underway). w.size) same)) (sym (ap (λ (w : Underway). w.kept) same)) c.set_aside-standing.ensures.place (sym c.set_aside-standing.ensures.given) there.1,
-        awaits_aside feed c.set_aside-standing.result.0 _ (sym c.set_aside-standing.ensures.given) (sym c.set_aside-standing.ensures.waiting) there.2,
+            (sym (ap (λ (w : Underway). w.size) same)) (sym (ap (λ (w : Underway). w.kept) same)) c.set_aside-standing.ensures.place (sym c.set_aside-standing.ensures.given) there.1.0,
+        awaits_aside feed c.set_aside-standing.result.0 _ (sym c.set_aside-standing.ensures.given) (sym c.set_aside-standing.ensures.waiting) there.1.1,
       );
       turns = λ s kept.
           let h = c.in-Waits-Some.ensures.steps s kept in
           let known = none_aside remaining first (c.resume-feed.ensures.given ∙ c.requires.none) in
           let reads = subst (λ (o : Option Begun). ReadsOn remaining (left remaining c.resume-feed.result) feed block o) c.in-Waits-Some.field-0-is h.0 in
           let head = take c.in-Waits-Some.field-0-0.len block in
-          (keeps_begun remaining last _ head (subst (λ (l : Option (List ℕ)). Keeps l (prepend_known head (whole_left remaining feed))) known reads.2), h.1);
+          (keeps_begun remaining last _ head (subst (λ (l : Option (List ℕ)). Keeps l (prepend_known head (whole_left remaining feed))) known reads.1.1), h.1);
       faults = tells_waits (reader_of c.resume-feed.result) _ (reader_of feed) _ c.resume-feed.ensures.reader back c.in-Waits-Some.ensures.faults;
       all = λ _. all_aside remaining c.resume-feed.result feed c.args.due.most c.args.reader.now c.reader-1.given.0 c.resume-feed.ensures.most c.resume-feed.ensures.reader back c.in-Waits-Some.ensures.all;
       unstaged = c.in-Waits-Some.ensures.unstaged;

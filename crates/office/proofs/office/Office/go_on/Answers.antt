@@ -9,8 +9,8 @@ use Rattle.office.proofs.office.Office.go_on.Goals as goal
 pub resume-resumed-requires : goal.resume-resumed-requires
 resume-resumed-requires g c = resumed_begun (head_of c.args.underway) c.args.underway _ (stood_at c.args.standing) _ _ c.resume-feed.ensures.place c.resume-feed.ensures.given c.requires
 
-pub returns-in-Done-clause-turns : goal.returns-in-Done-clause-turns
-returns-in-Done-clause-turns g c =
+pub returns-in-Done : goal.returns-in-Done
+returns-in-Done g c =
     let remaining = g.R.Read.remaining in
     let feed = c.resume-resumed.new.feed in
     let first : HasSame c.resume-feed.result c.args.standing c.args.reader.now = record { ahead = c.resume-feed.ensures.waiting; given = c.resume-feed.ensures.given; read_by = c.resume-feed.ensures.reader } in
@@ -29,8 +29,8 @@ returns-in-Done-clause-turns g c =
       rest = c.in-Done.ensures.rest;
     }
 
-pub returns-in-Waits-clause-turns : goal.returns-in-Waits-clause-turns
-returns-in-Waits-clause-turns g c =
+pub returns-in-Waits : goal.returns-in-Waits
+returns-in-Waits g c =
     let remaining = g.R.Read.remaining in
     let feed = c.resume-resumed.new.feed in
     let u = c.in-Waits.underway in

@@ -114,7 +114,7 @@ returns-in-Waits-clause-steps g c s p known head kept x len =
     let waits = either_way c.is_upload-upload.result r.passes (λ up. (r.stages up (held up)).0) in
     let begun = begun_so g.R.Read.remaining g.K.Keeper c.args.size c.args.feed.now took.feed s known c.args.foreseen c.args.to_head y c.keep-kept.result c.is_upload-upload.result took.self.keeper took.sha waits c.is_upload-upload.ensures.0
     (λ k at. keeps.some.1 (some_is c.keep-kept.result k at)) (λ up. (r.stages up (held up)).1) keeps.kept in (
-      (short_head y.opening.opens len, rw (taken_all head len) begun, rw (taken_all head len) (waits_kept known _ _ head y.opening.front waits.kept)),
+      (short_head y.opening.opens len, (rw (taken_all head len) begun, rw (taken_all head len) (waits_kept known _ _ head y.opening.front waits.kept))),
       stands_by all kept,
     )
 
@@ -129,7 +129,7 @@ returns-in-Waits-clause-stands g c head has_length o readable len =
     let waits = either_way c.is_upload-upload.result r.passes (λ up. (r.stages up (held up)).0) in
     let begun = begun_from g.R.Read.remaining g.K.Keeper c.args.size c.args.feed.now took.feed c.args.foreseen o readable c.keep-kept.result c.is_upload-upload.result took.self.keeper took.sha waits c.is_upload-upload.ensures.0
     (λ k at. keeps.some.1 (some_is c.keep-kept.result k at)) (λ up. (r.stages up (held up)).1) keeps.kept in
-    (short_head o len, rw (taken_all head len) begun, rw (taken_all head len) (awaits_more g.R.Read.remaining c.args.size c.args.feed.now took.feed head has_length o waits))
+    (short_head o len, (rw (taken_all head len) begun, rw (taken_all head len) (awaits_more g.R.Read.remaining c.args.size c.args.feed.now took.feed head has_length o waits)))
 
 pub returns-in-Waits-clause-all : goal.returns-in-Waits-clause-all
 returns-in-Waits-clause-all g c = c.in-Waits.ensures.all refl

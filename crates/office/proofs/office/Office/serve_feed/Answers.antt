@@ -65,10 +65,10 @@ pub messages-preserved : goal.messages-preserved
 messages-preserved g c =
     let old = g.W.Write.contents c.messages.writer.inner in
     let new = g.W.Write.contents c.respond.new.writer.inner in
-    let is_told = subst (IsTold old new c.in-Done.response) c.in-None.is c.respond.ensures.told in
+    let is_told = subst (IsTold old new c.in-Done.response) c.in_default.is c.respond.ensures.told in
     let on = told_answer old new c.in-Done.response is_told c.in-Done.ensures.goes_on in
     let told = told_faults c.in-Done.response None (reader_of c.messages.feed) (reader_of c.step.new.feed) c.messages.writer c.respond.new.writer old new is_told c.in-Done.ensures.faults
-    (subst (λ (o : Option SessionEnd). TellsWritten o c.messages.writer c.respond.new.writer) c.in-None.is c.respond.ensures.faults) in
+    (subst (λ (o : Option SessionEnd). TellsWritten o c.messages.writer c.respond.new.writer) c.in_default.is c.respond.ensures.faults) in
     let rest = holds_less (told_gives_up g.K.Keeper c.messages.self.keeper c.step.new.self.keeper old new c.in-Done.response None is_told) c.in-Done.ensures.rest in (
       (inr on.0, λ fresh. absurd (not_fresh _ on.0 fresh)),
       c.step.ensures.same ∙ c.messages.invariant.1,

@@ -99,8 +99,8 @@ returns-then-seat-ge-MOST_MESSAGES-clause-awaits g c = λ other. absurd (other r
 
 -- ---- the turn only read on
 
-pub returns-in-ReadOn-clause-turns : goal.returns-in-ReadOn-clause-turns
-returns-in-ReadOn-clause-turns g c s kept =
+pub returns-in_default-clause-turns : goal.returns-in_default-clause-turns
+returns-in_default-clause-turns g c s kept =
     let seat = c.args.seat.now in
     let was_open = none_of c.args.seat.now.end (sym (ap is_some c.end.ensures) ∙ sym c.is_some.ensures ∙ c.if-is_some.false) in
     let rest = g.R.Read.remaining seat.reader.inner in
@@ -108,35 +108,35 @@ returns-in-ReadOn-clause-turns g c s kept =
     ap (λ (u : Option Underway). left_behind u c.replace-standing.result rest) c.take-underway.ensures.value ∙ ap (λ (l : Standing). left_behind seat.underway l rest) c.replace-standing.ensures.value in
     let longer = ap length c.and-seat.ensures in
     read_on_turn g.C.Clock.now_gives g.R.Read.remaining g.W.Write.contents seat _ c.turn_aside-aside.result c.args.clock.now c.turn_aside-aside.new.clock g.K.Keeper c.args.self.now.keeper c.turn_aside-aside.new.self.keeper s
-    was_open _ c.turn_aside-aside.result.turn known c.in-ReadOn.is was_open refl (longer ∙ omega (arith, length_push seat.waited.items (seat.served, seat.served))) refl refl refl (c.turn_aside-aside.ensures.turns.turns s kept)
+    was_open _ c.turn_aside-aside.result.turn known c.in_default.is was_open refl (longer ∙ omega (arith, length_push seat.waited.items (seat.served, seat.served))) refl refl refl (c.turn_aside-aside.ensures.turns s kept)
 
-pub returns-in-ReadOn-clause-faults : goal.returns-in-ReadOn-clause-faults
-returns-in-ReadOn-clause-faults g c =
+pub returns-in_default-clause-faults : goal.returns-in_default-clause-faults
+returns-in_default-clause-faults g c =
     let seat = c.args.seat.now in
     let was_open = none_of c.args.seat.now.end (sym (ap is_some c.end.ensures) ∙ sym c.is_some.ensures ∙ c.if-is_some.false) in
-    turn_tells seat _ None was_open was_open (rw c.in-ReadOn.is at c.turn_aside-aside.ensures.turns.faults, refl)
+    turn_tells seat _ None was_open was_open (rw c.in_default.is at c.turn_aside-aside.ensures.faults, refl)
 
-pub returns-in-ReadOn-clause-unstaged : goal.returns-in-ReadOn-clause-unstaged
-returns-in-ReadOn-clause-unstaged g c = c.turn_aside-aside.ensures.turns.unstaged
+pub returns-in_default-clause-unstaged : goal.returns-in_default-clause-unstaged
+returns-in_default-clause-unstaged g c = c.turn_aside-aside.ensures.unstaged
 
-pub returns-in-ReadOn-clause-rest : goal.returns-in-ReadOn-clause-rest
-returns-in-ReadOn-clause-rest g c = holds_less (λ (is : ⊥). absurd is) (rw c.in-ReadOn.is at c.turn_aside-aside.ensures.turns.rest)
+pub returns-in_default-clause-rest : goal.returns-in_default-clause-rest
+returns-in_default-clause-rest g c = holds_less (λ (is : ⊥). absurd is) (rw c.in_default.is at c.turn_aside-aside.ensures.rest)
 
-pub returns-in-ReadOn-clause-free : goal.returns-in-ReadOn-clause-free
-returns-in-ReadOn-clause-free g c = λ none. absurd (rw none at c.turn_aside-aside.ensures.turns.all c.in-ReadOn.is)
+pub returns-in_default-clause-free : goal.returns-in_default-clause-free
+returns-in_default-clause-free g c = λ none. absurd (rw none at c.turn_aside-aside.ensures.all c.in_default.is)
 
-pub returns-in-ReadOn-clause-all : goal.returns-in-ReadOn-clause-all
-returns-in-ReadOn-clause-all g c = λ _. c.turn_aside-aside.ensures.turns.all c.in-ReadOn.is
+pub returns-in_default-clause-all : goal.returns-in_default-clause-all
+returns-in_default-clause-all g c = λ _. c.turn_aside-aside.ensures.all c.in_default.is
 
-pub returns-in-ReadOn-clause-awaits : goal.returns-in-ReadOn-clause-awaits
-returns-in-ReadOn-clause-awaits g c = λ _.
-    let stands = rw c.in-ReadOn.is at c.turn_aside-aside.ensures.turns.stands in
+pub returns-in_default-clause-awaits : goal.returns-in_default-clause-awaits
+returns-in_default-clause-awaits g c = λ _.
+    let stands = rw c.in_default.is at c.turn_aside-aside.ensures.stands in
     stands.2
 
-pub invariant_of-seat-in-ReadOn : goal.invariant_of-seat-in-ReadOn
-invariant_of-seat-in-ReadOn g c =
+pub invariant_of-seat-in_default : goal.invariant_of-seat-in_default
+invariant_of-seat-in_default g c =
     let aside = c.turn_aside-aside.result in
-    let stands = rw c.in-ReadOn.is at c.turn_aside-aside.ensures.turns.stands in
+    let stands = rw c.in_default.is at c.turn_aside-aside.ensures.stands in
     record {
       few = c.args.seat.now.few;
       begins = λ still none. begins_aside aside stands none;
@@ -156,23 +156,23 @@ returns-then-is_none-clause-turns g c s kept =
     ap (λ (u : Option Underway). left_behind u c.replace-standing.result rest) c.take-underway.ensures.value ∙ ap (λ (l : Standing). left_behind seat.underway l rest) c.replace-standing.ensures.value in
     let aside = c.turn_aside-aside.result in
     let old = g.W.Write.contents seat.writer.inner in
-    let new = g.W.Write.contents c.respond.new.writer.inner in
-    let by = rw c.in-Done.is at c.turn_aside-aside.ensures.turns.turns s kept in
+    let new = g.W.Write.contents c.respond-seat.new.writer.inner in
+    let by = rw c.in-Done.is at c.turn_aside-aside.ensures.turns s kept in
     let h = steps_told g.C.Clock.now_gives place.Between (left_behind c.take-underway.result c.replace-standing.result rest) (left_behind None aside.standing (g.R.Read.remaining c.turn_aside-aside.new.reader.inner)) (g.R.Read.remaining c.turn_aside-aside.new.reader.inner)
-    c.args.clock.now c.turn_aside-aside.new.clock g.K.Keeper c.args.self.now.keeper c.turn_aside-aside.new.self.keeper s old new c.in-Done.response c.respond.result by c.respond.ensures.told in
-    let still = none_of c.respond.result (c.is_none.ensures ∙ ap not c.if-is_none.true) in
-    let stands = rw c.in-Done.is at c.turn_aside-aside.ensures.turns.stands in
+    c.args.clock.now c.turn_aside-aside.new.clock g.K.Keeper c.args.self.now.keeper c.turn_aside-aside.new.self.keeper s old new c.in-Done.response c.respond-seat.result by c.respond-seat.ensures.told in
+    let still = none_of c.respond-seat.result (c.is_none.ensures ∙ ap not c.if-is_none.true) in
+    let stands = rw c.in-Done.is at c.turn_aside-aside.ensures.stands in
     answered_turn g.C.Clock.now_gives g.R.Read.remaining g.W.Write.contents seat _ aside c.args.clock.now c.turn_aside-aside.new.clock g.K.Keeper c.args.self.now.keeper c.turn_aside-aside.new.self.keeper s
-    was_open _ c.respond.result known still still refl refl refl refl stands.0 h
+    was_open _ c.respond-seat.result known still still refl refl refl refl stands.0 h
 
 pub invariant_of-seat-then-is_none : goal.invariant_of-seat-then-is_none
 invariant_of-seat-then-is_none g c =
     let aside = c.turn_aside-aside.result in
-    let stands = rw c.in-Done.is at c.turn_aside-aside.ensures.turns.stands in
+    let stands = rw c.in-Done.is at c.turn_aside-aside.ensures.stands in
     let old = g.W.Write.contents c.args.seat.now.writer.inner in
-    let new = g.W.Write.contents c.respond.new.writer.inner in
-    let still = none_of c.respond.result (c.is_none.ensures ∙ ap not c.if-is_none.true) in
-    let at = told_answer old new c.in-Done.response (subst (IsTold old new c.in-Done.response) still c.respond.ensures.told) stands.1 in
+    let new = g.W.Write.contents c.respond-seat.new.writer.inner in
+    let still = none_of c.respond-seat.result (c.is_none.ensures ∙ ap not c.if-is_none.true) in
+    let at = told_answer old new c.in-Done.response (subst (IsTold old new c.in-Done.response) still c.respond-seat.ensures.told) stands.1 in
     record {
       few = omega (arith, c.if-seat-ge-MOST_MESSAGES.false);
       begins = λ still none. begins_at aside.standing at.0;
@@ -183,8 +183,8 @@ invariant_of-seat-then-is_none g c =
 
 -- ---- the connection ended
 
-pub returns-else-is_none-clause-turns : goal.returns-else-is_none-clause-turns
-returns-else-is_none-clause-turns g c s kept =
+pub returns-clause-turns : goal.returns-clause-turns
+returns-clause-turns g c s kept =
     let seat = c.args.seat.now in
     let was_open = none_of c.args.seat.now.end (sym (ap is_some c.end.ensures) ∙ sym c.is_some.ensures ∙ c.if-is_some.false) in
     let rest = g.R.Read.remaining seat.reader.inner in
@@ -192,24 +192,24 @@ returns-else-is_none-clause-turns g c s kept =
     ap (λ (u : Option Underway). left_behind u c.replace-standing.result rest) c.take-underway.ensures.value ∙ ap (λ (l : Standing). left_behind seat.underway l rest) c.replace-standing.ensures.value in
     let aside = c.turn_aside-aside.result in
     let old = g.W.Write.contents seat.writer.inner in
-    let new = g.W.Write.contents c.respond.new.writer.inner in
-    let by = rw c.in-Done.is at c.turn_aside-aside.ensures.turns.turns s kept in
+    let new = g.W.Write.contents c.respond-seat.new.writer.inner in
+    let by = rw c.in-Done.is at c.turn_aside-aside.ensures.turns s kept in
     let h = steps_told g.C.Clock.now_gives place.Between (left_behind c.take-underway.result c.replace-standing.result rest) (left_behind None aside.standing (g.R.Read.remaining c.turn_aside-aside.new.reader.inner)) (g.R.Read.remaining c.turn_aside-aside.new.reader.inner)
-    c.args.clock.now c.turn_aside-aside.new.clock g.K.Keeper c.args.self.now.keeper c.turn_aside-aside.new.self.keeper s old new c.in-Done.response c.respond.result by c.respond.ensures.told in
-    let over = some_of c.respond.result (c.is_none.ensures ∙ ap not c.if-is_none.false) in
+    c.args.clock.now c.turn_aside-aside.new.clock g.K.Keeper c.args.self.now.keeper c.turn_aside-aside.new.self.keeper s old new c.in-Done.response c.respond-seat.result by c.respond-seat.ensures.told in
+    let over = some_of c.respond-seat.result (c.is_none.ensures ∙ ap not c.if-is_none.false) in
     ended_turn g.C.Clock.now_gives g.R.Read.remaining g.W.Write.contents seat _ aside c.args.clock.now c.turn_aside-aside.new.clock g.K.Keeper c.args.self.now.keeper c.turn_aside-aside.new.self.keeper s
-    was_open _ c.respond.result over.0 known over.1 (omega (arith, c.if-seat-ge-MOST_MESSAGES.false)) over.1 refl refl h
+    was_open _ c.respond-seat.result over.0 known over.1 (omega (arith, c.if-seat-ge-MOST_MESSAGES.false)) over.1 refl refl h
 
-pub invariant_of-seat-else-is_none : goal.invariant_of-seat-else-is_none
-invariant_of-seat-else-is_none g c =
+pub invariant_of-seat-2 : goal.invariant_of-seat-2
+invariant_of-seat-2 g c =
     let aside = c.turn_aside-aside.result in
-    let stands = rw c.in-Done.is at c.turn_aside-aside.ensures.turns.stands in
-    let over = some_of c.respond.result (c.is_none.ensures ∙ ap not c.if-is_none.false) in
+    let stands = rw c.in-Done.is at c.turn_aside-aside.ensures.stands in
+    let over = some_of c.respond-seat.result (c.is_none.ensures ∙ ap not c.if-is_none.false) in
     record {
       few = c.args.seat.now.few;
       begins = λ still none. absurd (none_is over.0 (sym (sym over.1 ∙ still)));
       forgot = λ still none. absurd (none_is over.0 (sym (sym over.1 ∙ still)));
-      goes_on = none_underway aside.underway c.let_go-else-is_none.new.self stands.0;
+      goes_on = none_underway aside.underway c.let_go-2.new.self stands.0;
       fresh = λ still at. absurd (none_is over.0 (sym (sym over.1 ∙ still)));
     }
 
@@ -220,19 +220,19 @@ returns-then-is_none-clause-faults g c =
     let seat = c.args.seat.now in
     let was_open = none_of c.args.seat.now.end (sym (ap is_some c.end.ensures) ∙ sym c.is_some.ensures ∙ c.if-is_some.false) in
     let old = g.W.Write.contents seat.writer.inner in
-    let new = g.W.Write.contents c.respond.new.writer.inner in
-    turn_tells seat _ c.respond.result was_open refl
-    (told_faults c.in-Done.response c.respond.result seat.reader c.turn_aside-aside.new.reader seat.writer c.respond.new.writer old new c.respond.ensures.told (rw c.in-Done.is at c.turn_aside-aside.ensures.turns.faults) c.respond.ensures.faults)
+    let new = g.W.Write.contents c.respond-seat.new.writer.inner in
+    turn_tells seat _ c.respond-seat.result was_open refl
+    (told_faults c.in-Done.response c.respond-seat.result seat.reader c.turn_aside-aside.new.reader seat.writer c.respond-seat.new.writer old new c.respond-seat.ensures.told (rw c.in-Done.is at c.turn_aside-aside.ensures.faults) c.respond-seat.ensures.faults)
 
 pub returns-then-is_none-clause-unstaged : goal.returns-then-is_none-clause-unstaged
-returns-then-is_none-clause-unstaged g c = c.turn_aside-aside.ensures.turns.unstaged
+returns-then-is_none-clause-unstaged g c = c.turn_aside-aside.ensures.unstaged
 
 pub returns-then-is_none-clause-rest : goal.returns-then-is_none-clause-rest
 returns-then-is_none-clause-rest g c =
     let old = g.W.Write.contents c.args.seat.now.writer.inner in
-    let new = g.W.Write.contents c.respond.new.writer.inner in
-    holds_less (told_gives_up g.K.Keeper c.args.self.now.keeper c.turn_aside-aside.new.self.keeper old new c.in-Done.response c.respond.result c.respond.ensures.told)
-    (rw c.in-Done.is at c.turn_aside-aside.ensures.turns.rest)
+    let new = g.W.Write.contents c.respond-seat.new.writer.inner in
+    holds_less (told_gives_up g.K.Keeper c.args.self.now.keeper c.turn_aside-aside.new.self.keeper old new c.in-Done.response c.respond-seat.result c.respond-seat.ensures.told)
+    (rw c.in-Done.is at c.turn_aside-aside.ensures.rest)
 
 pub returns-then-is_none-clause-all : goal.returns-then-is_none-clause-all
 returns-then-is_none-clause-all g c = λ other. absurd (other refl)
@@ -240,27 +240,27 @@ returns-then-is_none-clause-all g c = λ other. absurd (other refl)
 pub returns-then-is_none-clause-awaits : goal.returns-then-is_none-clause-awaits
 returns-then-is_none-clause-awaits g c = λ other. absurd (other refl)
 
-pub returns-else-is_none-clause-faults : goal.returns-else-is_none-clause-faults
-returns-else-is_none-clause-faults g c =
+pub returns-clause-faults : goal.returns-clause-faults
+returns-clause-faults g c =
     let seat = c.args.seat.now in
     let was_open = none_of c.args.seat.now.end (sym (ap is_some c.end.ensures) ∙ sym c.is_some.ensures ∙ c.if-is_some.false) in
     let old = g.W.Write.contents seat.writer.inner in
-    let new = g.W.Write.contents c.respond.new.writer.inner in
-    turn_tells seat _ c.respond.result was_open refl
-    (told_faults c.in-Done.response c.respond.result seat.reader c.turn_aside-aside.new.reader seat.writer c.respond.new.writer old new c.respond.ensures.told (rw c.in-Done.is at c.turn_aside-aside.ensures.turns.faults) c.respond.ensures.faults)
+    let new = g.W.Write.contents c.respond-seat.new.writer.inner in
+    turn_tells seat _ c.respond-seat.result was_open refl
+    (told_faults c.in-Done.response c.respond-seat.result seat.reader c.turn_aside-aside.new.reader seat.writer c.respond-seat.new.writer old new c.respond-seat.ensures.told (rw c.in-Done.is at c.turn_aside-aside.ensures.faults) c.respond-seat.ensures.faults)
 
-pub returns-else-is_none-clause-unstaged : goal.returns-else-is_none-clause-unstaged
-returns-else-is_none-clause-unstaged g c = c.turn_aside-aside.ensures.turns.unstaged
+pub returns-clause-unstaged : goal.returns-clause-unstaged
+returns-clause-unstaged g c = c.turn_aside-aside.ensures.unstaged
 
-pub returns-else-is_none-clause-rest : goal.returns-else-is_none-clause-rest
-returns-else-is_none-clause-rest g c =
+pub returns-clause-rest : goal.returns-clause-rest
+returns-clause-rest g c =
     let old = g.W.Write.contents c.args.seat.now.writer.inner in
-    let new = g.W.Write.contents c.respond.new.writer.inner in
-    holds_less (told_gives_up g.K.Keeper c.args.self.now.keeper c.turn_aside-aside.new.self.keeper old new c.in-Done.response c.respond.result c.respond.ensures.told)
-    (rw c.in-Done.is at c.turn_aside-aside.ensures.turns.rest)
+    let new = g.W.Write.contents c.respond-seat.new.writer.inner in
+    holds_less (told_gives_up g.K.Keeper c.args.self.now.keeper c.turn_aside-aside.new.self.keeper old new c.in-Done.response c.respond-seat.result c.respond-seat.ensures.told)
+    (rw c.in-Done.is at c.turn_aside-aside.ensures.rest)
 
-pub returns-else-is_none-clause-all : goal.returns-else-is_none-clause-all
-returns-else-is_none-clause-all g c = λ other. absurd (other refl)
+pub returns-clause-all : goal.returns-clause-all
+returns-clause-all g c = λ other. absurd (other refl)
 
-pub returns-else-is_none-clause-awaits : goal.returns-else-is_none-clause-awaits
-returns-else-is_none-clause-awaits g c = λ other. absurd (other refl)
+pub returns-clause-awaits : goal.returns-clause-awaits
+returns-clause-awaits g c = λ other. absurd (other refl)
