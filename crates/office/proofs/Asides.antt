@@ -24,11 +24,9 @@ use Rattle.office.proofs.Told.{if_answer}
 use Rattle.office.specs.Responding.{IfAnswer, TellsReading}
 use Rattle.office.specs.Seats.{LacksRest}
 use Rattle.office.specs.Stepping.{AwaitsMore, StepsBy, WaitsBehind, WaitsIn}
-use Rattle.office.specs.Turning.{StandsAside, TurnsTo}
 use Rattle.office.specs.declared.connections.responding.Response.{Response}
 use Rattle.office.specs.declared.connections.responding.Response.TheVariants as response
 use Rattle.office.specs.declared.connections.stepping.Begun.{Begun}
-use Rattle.office.specs.declared.connections.turning.Aside.{Aside}
 use Rattle.office.specs.declared.connections.turning.Turn.TheVariants as turn
 
 -- nothing was given of an open body
@@ -97,24 +95,24 @@ resumed_begun head u p q l m here given is =
 -- ---- a step that is done
 
 module _ {C K R : Type 0} (gives : C → ℕ → C → Type 0) (remaining : R → Option (List ℕ)) {feed : Feed R} {reader : Counted R} (clock clock' : C) (k : Ghosts K) (keeper keeper' : K) (s : State) where
-  pub turn_done : (known : Option (List ℕ)) (aside : Aside) (x : Response) → HasSame feed aside.standing reader → IfAnswer x (given_of feed ≡ [])
+  pub turn_done : (known : Option (List ℕ)) (standing : Standing) (x : Response) → HasSame feed standing reader → IfAnswer x (given_of feed ≡ [])
       → StepsBy gives place.Between known (left remaining feed) (remaining (reader_of feed).inner) clock clock' k keeper keeper' s x
-      → TurnsTo gives known remaining reader clock clock' k keeper keeper' s aside (turn.Done x)
-  turn_done known aside (response.Answer y) same none steps =
-      subst (λ (r : Counted R). StepsBy gives place.Between known (left_behind None aside.standing (remaining reader.inner)) (remaining r.inner) clock clock' k keeper keeper' s (response.Answer y)) same.read_by
+      → StepsBy gives place.Between known (left_behind None standing (remaining reader.inner)) (remaining reader.inner) clock clock' k keeper keeper' s x
+  turn_done known standing (response.Answer y) same none steps =
+      subst (λ (r : Counted R). StepsBy gives place.Between known (left_behind None standing (remaining reader.inner)) (remaining r.inner) clock clock' k keeper keeper' s (response.Answer y)) same.read_by
       (subst (λ (l : Option (List ℕ)). StepsBy gives place.Between known l (remaining (reader_of feed).inner) clock clock' k keeper keeper' s (response.Answer y)) (none_aside remaining same none) steps)
-  turn_done known aside (response.Close q) same none steps =
+  turn_done known standing (response.Close q) same none steps =
       subst (λ (r : Counted R). StepsBy gives place.Between known (left remaining feed) (remaining r.inner) clock clock' k keeper keeper' s (response.Close q)) same.read_by steps
-  turn_done known aside response.Ended same none steps =
+  turn_done known standing response.Ended same none steps =
       subst (λ (r : Counted R). StepsBy gives place.Between known (left remaining feed) (remaining r.inner) clock clock' k keeper keeper' s response.Ended) same.read_by steps
-  turn_done known aside response.Truncated same none steps =
+  turn_done known standing response.Truncated same none steps =
       subst (λ (r : Counted R). StepsBy gives place.Between known (left remaining feed) (remaining r.inner) clock clock' k keeper keeper' s response.Truncated) same.read_by steps
-  turn_done known aside response.ReadFault same none steps =
+  turn_done known standing response.ReadFault same none steps =
       subst (λ (r : Counted R). StepsBy gives place.Between known (left remaining feed) (remaining r.inner) clock clock' k keeper keeper' s response.ReadFault) same.read_by steps
 
-pub stands_done : {R : Type 0} (feed : Feed R) (aside : Aside) (x : Response) → aside.underway ≡ None → stood_at aside.standing ≡ place_of feed → given_of feed ≡ given_before aside.standing
-    → IfAnswer x ((place_of feed ≡ place.Between) × (given_of feed ≡ [])) → StandsAside (turn.Done x) aside
-stands_done feed aside x none here given goes = (none, if_answer x (λ (at : (place_of feed ≡ place.Between) × (given_of feed ≡ [])). (here ∙ at.0, sym given ∙ at.1)) goes)
+pub stands_done : {R : Type 0} (feed : Feed R) (standing : Standing) (underway : Option Underway) (x : Response) → underway ≡ None → stood_at standing ≡ place_of feed → given_of feed ≡ given_before standing
+    → IfAnswer x ((place_of feed ≡ place.Between) × (given_of feed ≡ [])) → (underway ≡ None) × IfAnswer x ((stood_at standing ≡ place.Between) × (given_before standing ≡ []))
+stands_done feed standing underway x none here given goes = (none, if_answer x (λ (at : (place_of feed ≡ place.Between) × (given_of feed ≡ [])). (here ∙ at.0, sym given ∙ at.1)) goes)
 
 -- the faults of reading, with equal readers
 pub tells_done : {R : Type 0} (x : Response) (a a' b b' : Counted R) → a ≡ a' → b ≡ b' → TellsReading x a b → TellsReading x a' b'

@@ -29,10 +29,10 @@ returns-in-Done g c =
     sym (c.reader-1.given.1 (sym (c.into_reader.ensures.same ∙ c.set_aside-standing.ensures.same ∙ c.in-Done.ensures.same ∙ c.resume-feed.ensures.same)) ∙ c.into_reader.ensures.now ∙ c.set_aside-standing.ensures.reader) in
     let last : HasSame feed c.set_aside-standing.result.0 c.reader-1.given.0 = record { ahead = sym c.set_aside-standing.ensures.waiting; given = sym c.set_aside-standing.ensures.given; read_by = back } in
     record {
-      stands = stands_done feed _ c.in-Done.response refl c.set_aside-standing.ensures.place (sym c.set_aside-standing.ensures.given) c.in-Done.ensures.goes_on;
+      stands = stands_done feed c.set_aside-standing.result.0 None c.in-Done.response refl c.set_aside-standing.ensures.place (sym c.set_aside-standing.ensures.given) c.in-Done.ensures.goes_on;
       turns = λ s kept.
           turn_done g.C.Clock.now_gives remaining c.args.clock.now c.step-stepped.new.clock g.K.Keeper c.args.self.now.keeper c.step-stepped.new.self.keeper s
-          _ _ c.in-Done.response last (if_answer c.in-Done.response (λ at. at.1) c.in-Done.ensures.goes_on)
+          _ c.set_aside-standing.result.0 c.in-Done.response last (if_answer c.in-Done.response (λ at. at.1) c.in-Done.ensures.goes_on)
           (steps_by g.C.Clock.now_gives (place_of c.resume-feed.result) place.Between (left remaining c.resume-feed.result) _ (left remaining feed) (remaining (reader_of feed).inner)
           _ _ g.K.Keeper _ _ s c.in-Done.response
           (c.resume-feed.ensures.place ∙ resumed_between (stood_at c.args.standing) c.requires.begins) (none_aside remaining first (c.resume-feed.ensures.given ∙ c.requires.none))

@@ -1,4 +1,4 @@
-use Rattle.std.proofs.Common.{◌≡◌, ◌∙◌, refl, sym}
+use Rattle.std.proofs.Common.{◌≡◌, ◌∙◌, None, refl, sym}
 use Rattle.wire.specs.Feeds.{reader_of, stood_at}
 use Rattle.wire.specs.Underways.{head_of}
 use Rattle.wire.specs.declared.feed.Place.TheVariants as place
@@ -18,10 +18,10 @@ returns-in-Done g c =
     sym (c.reader-1.given.1 (sym (c.into_reader.ensures.same ∙ c.set_aside-standing.ensures.same ∙ c.in-Done.ensures.same ∙ c.resume-feed.ensures.same)) ∙ c.into_reader.ensures.now ∙ c.set_aside-standing.ensures.reader) in
     let last : HasSame feed c.set_aside-standing.result.0 c.reader-1.given.0 = record { ahead = sym c.set_aside-standing.ensures.waiting; given = sym c.set_aside-standing.ensures.given; read_by = back } in
     record {
-      stands = stands_done feed _ c.in-Done.response refl c.set_aside-standing.ensures.place (sym c.set_aside-standing.ensures.given) c.in-Done.ensures.goes_on;
+      stands = stands_done feed c.set_aside-standing.result.0 None c.in-Done.response refl c.set_aside-standing.ensures.place (sym c.set_aside-standing.ensures.given) c.in-Done.ensures.goes_on;
       turns = λ s kept.
           turn_done g.C.Clock.now_gives remaining c.args.clock.now c.resume-resumed.new.clock g.K.Keeper c.args.self.now.keeper c.resume-resumed.new.self.keeper s
-          _ _ c.in-Done.response last (if_answer c.in-Done.response (λ at. at.1) c.in-Done.ensures.goes_on)
+          _ c.set_aside-standing.result.0 c.in-Done.response last (if_answer c.in-Done.response (λ at. at.1) c.in-Done.ensures.goes_on)
           (c.in-Done.ensures.steps s place.Between _ kept (keeps_resumed remaining first c.args.underway));
       faults = tells_done c.in-Done.response (reader_of c.resume-feed.result) _ (reader_of feed) _ c.resume-feed.ensures.reader back c.in-Done.ensures.faults;
       all = λ is. done_not_waits c.in-Done.response is;

@@ -159,7 +159,7 @@ returns-then-is_none-clause-turns g c s kept =
     let new = g.W.Write.contents c.respond-seat.new.writer.inner in
     let by = rw c.in-Done.is at c.turn_aside-aside.ensures.turns s kept in
     let h = steps_told g.C.Clock.now_gives place.Between (left_behind c.take-underway.result c.replace-standing.result rest) (left_behind None aside.standing (g.R.Read.remaining c.turn_aside-aside.new.reader.inner)) (g.R.Read.remaining c.turn_aside-aside.new.reader.inner)
-    c.args.clock.now c.turn_aside-aside.new.clock g.K.Keeper c.args.self.now.keeper c.turn_aside-aside.new.self.keeper s old new c.in-Done.response c.respond-seat.result by c.respond-seat.ensures.told in
+    c.args.clock.now c.turn_aside-aside.new.clock g.K.Keeper c.args.self.now.keeper c.turn_aside-aside.new.self.keeper s old new c.in-Done.response c.respond-seat.result by (rw c.in-Done.is at c.respond-seat.ensures.told) in
     let still = none_of c.respond-seat.result (c.is_none.ensures ∙ ap not c.if-is_none.true) in
     let stands = rw c.in-Done.is at c.turn_aside-aside.ensures.stands in
     answered_turn g.C.Clock.now_gives g.R.Read.remaining g.W.Write.contents seat _ aside c.args.clock.now c.turn_aside-aside.new.clock g.K.Keeper c.args.self.now.keeper c.turn_aside-aside.new.self.keeper s
@@ -172,7 +172,7 @@ invariant_of-seat-then-is_none g c =
     let old = g.W.Write.contents c.args.seat.now.writer.inner in
     let new = g.W.Write.contents c.respond-seat.new.writer.inner in
     let still = none_of c.respond-seat.result (c.is_none.ensures ∙ ap not c.if-is_none.true) in
-    let at = told_answer old new c.in-Done.response (subst (IsTold old new c.in-Done.response) still c.respond-seat.ensures.told) stands.1 in
+    let at = told_answer old new c.in-Done.response (subst (IsTold old new c.in-Done.response) still (rw c.in-Done.is at c.respond-seat.ensures.told)) stands.1 in
     record {
       few = omega (arith, c.if-seat-ge-MOST_MESSAGES.false);
       begins = λ still none. begins_at aside.standing at.0;
@@ -195,23 +195,10 @@ returns-clause-turns g c s kept =
     let new = g.W.Write.contents c.respond-seat.new.writer.inner in
     let by = rw c.in-Done.is at c.turn_aside-aside.ensures.turns s kept in
     let h = steps_told g.C.Clock.now_gives place.Between (left_behind c.take-underway.result c.replace-standing.result rest) (left_behind None aside.standing (g.R.Read.remaining c.turn_aside-aside.new.reader.inner)) (g.R.Read.remaining c.turn_aside-aside.new.reader.inner)
-    c.args.clock.now c.turn_aside-aside.new.clock g.K.Keeper c.args.self.now.keeper c.turn_aside-aside.new.self.keeper s old new c.in-Done.response c.respond-seat.result by c.respond-seat.ensures.told in
+    c.args.clock.now c.turn_aside-aside.new.clock g.K.Keeper c.args.self.now.keeper c.turn_aside-aside.new.self.keeper s old new c.in-Done.response c.respond-seat.result by (rw c.in-Done.is at c.respond-seat.ensures.told) in
     let over = some_of c.respond-seat.result (c.is_none.ensures ∙ ap not c.if-is_none.false) in
     ended_turn g.C.Clock.now_gives g.R.Read.remaining g.W.Write.contents seat _ aside c.args.clock.now c.turn_aside-aside.new.clock g.K.Keeper c.args.self.now.keeper c.turn_aside-aside.new.self.keeper s
     was_open _ c.respond-seat.result over.0 known over.1 (omega (arith, c.if-seat-ge-MOST_MESSAGES.false)) over.1 refl refl h
-
-pub invariant_of-seat-2 : goal.invariant_of-seat-2
-invariant_of-seat-2 g c =
-    let aside = c.turn_aside-aside.result in
-    let stands = rw c.in-Done.is at c.turn_aside-aside.ensures.stands in
-    let over = some_of c.respond-seat.result (c.is_none.ensures ∙ ap not c.if-is_none.false) in
-    record {
-      few = c.args.seat.now.few;
-      begins = λ still none. absurd (none_is over.0 (sym (sym over.1 ∙ still)));
-      forgot = λ still none. absurd (none_is over.0 (sym (sym over.1 ∙ still)));
-      goes_on = none_underway aside.underway c.let_go-2.new.self stands.0;
-      fresh = λ still at. absurd (none_is over.0 (sym (sym over.1 ∙ still)));
-    }
 
 -- ---- either way
 
@@ -222,7 +209,7 @@ returns-then-is_none-clause-faults g c =
     let old = g.W.Write.contents seat.writer.inner in
     let new = g.W.Write.contents c.respond-seat.new.writer.inner in
     turn_tells seat _ c.respond-seat.result was_open refl
-    (told_faults c.in-Done.response c.respond-seat.result seat.reader c.turn_aside-aside.new.reader seat.writer c.respond-seat.new.writer old new c.respond-seat.ensures.told (rw c.in-Done.is at c.turn_aside-aside.ensures.faults) c.respond-seat.ensures.faults)
+    (told_faults c.in-Done.response c.respond-seat.result seat.reader c.turn_aside-aside.new.reader seat.writer c.respond-seat.new.writer old new (rw c.in-Done.is at c.respond-seat.ensures.told) (rw c.in-Done.is at c.turn_aside-aside.ensures.faults) c.respond-seat.ensures.faults)
 
 pub returns-then-is_none-clause-unstaged : goal.returns-then-is_none-clause-unstaged
 returns-then-is_none-clause-unstaged g c = c.turn_aside-aside.ensures.unstaged
@@ -231,7 +218,7 @@ pub returns-then-is_none-clause-rest : goal.returns-then-is_none-clause-rest
 returns-then-is_none-clause-rest g c =
     let old = g.W.Write.contents c.args.seat.now.writer.inner in
     let new = g.W.Write.contents c.respond-seat.new.writer.inner in
-    holds_less (told_gives_up g.K.Keeper c.args.self.now.keeper c.turn_aside-aside.new.self.keeper old new c.in-Done.response c.respond-seat.result c.respond-seat.ensures.told)
+    holds_less (told_gives_up g.K.Keeper c.args.self.now.keeper c.turn_aside-aside.new.self.keeper old new c.in-Done.response c.respond-seat.result (rw c.in-Done.is at c.respond-seat.ensures.told))
     (rw c.in-Done.is at c.turn_aside-aside.ensures.rest)
 
 pub returns-then-is_none-clause-all : goal.returns-then-is_none-clause-all
@@ -247,7 +234,7 @@ returns-clause-faults g c =
     let old = g.W.Write.contents seat.writer.inner in
     let new = g.W.Write.contents c.respond-seat.new.writer.inner in
     turn_tells seat _ c.respond-seat.result was_open refl
-    (told_faults c.in-Done.response c.respond-seat.result seat.reader c.turn_aside-aside.new.reader seat.writer c.respond-seat.new.writer old new c.respond-seat.ensures.told (rw c.in-Done.is at c.turn_aside-aside.ensures.faults) c.respond-seat.ensures.faults)
+    (told_faults c.in-Done.response c.respond-seat.result seat.reader c.turn_aside-aside.new.reader seat.writer c.respond-seat.new.writer old new (rw c.in-Done.is at c.respond-seat.ensures.told) (rw c.in-Done.is at c.turn_aside-aside.ensures.faults) c.respond-seat.ensures.faults)
 
 pub returns-clause-unstaged : goal.returns-clause-unstaged
 returns-clause-unstaged g c = c.turn_aside-aside.ensures.unstaged
@@ -256,7 +243,7 @@ pub returns-clause-rest : goal.returns-clause-rest
 returns-clause-rest g c =
     let old = g.W.Write.contents c.args.seat.now.writer.inner in
     let new = g.W.Write.contents c.respond-seat.new.writer.inner in
-    holds_less (told_gives_up g.K.Keeper c.args.self.now.keeper c.turn_aside-aside.new.self.keeper old new c.in-Done.response c.respond-seat.result c.respond-seat.ensures.told)
+    holds_less (told_gives_up g.K.Keeper c.args.self.now.keeper c.turn_aside-aside.new.self.keeper old new c.in-Done.response c.respond-seat.result (rw c.in-Done.is at c.respond-seat.ensures.told))
     (rw c.in-Done.is at c.turn_aside-aside.ensures.rest)
 
 pub returns-clause-all : goal.returns-clause-all
