@@ -26,8 +26,8 @@ read_in remaining known feed head block len (Some b) at all long (short, (is, ke
     let same : take b.len head ≡ take b.len block = ap (λ (n : ℕ). take n head) long ∙ all ∙ sym at ∙ ap (λ (n : ℕ). take n block) (sym long) in (
       short,
       (
-          subst (λ (text : List ℕ). IsBegun text b.size b.kept (place_of feed) (given_of feed)) same is,
-          subst (λ (text : List ℕ). Keeps known (prepend_known text (whole_left remaining feed))) same kept,
+        subst (λ (text : List ℕ). IsBegun text b.size b.kept (place_of feed) (given_of feed)) same is,
+        subst (λ (text : List ℕ). Keeps known (prepend_known text (whole_left remaining feed))) same kept,
       ),
     )
 

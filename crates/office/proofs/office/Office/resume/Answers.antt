@@ -228,9 +228,9 @@ returns-in-Waits-clause-steps g c s p known was kept =
     let quiet : Quiet g.K.Keeper c.args.self.now.keeper c.keep-kept.new.self.keeper ⊥ = quiet_then (quiet_then put.quiet (quiet_less waits_not_gave_up r.quiet)) keeps.quiet in
     let waits = either_way is.result r.passes (λ t. (r.stages t (part t)).0) in (
       (
-          still_begun g.R.Read.remaining g.K.Keeper size c.args.feed.now took.feed head c.args.underway.kept c.requires c.keep-kept.result took.self.keeper took.sha waits
-              (λ y at. sym is.ensures ∙ keeps.some.1 (some_is c.keep-kept.result y at)) (λ some. let t = is.ensures ∙ some in (r.stages t (part t)).1) keeps.kept,
-          still_kept known (whole_left g.R.Read.remaining c.args.feed.now) (whole_left g.R.Read.remaining took.feed) head kept waits.kept,
+        still_begun g.R.Read.remaining g.K.Keeper size c.args.feed.now took.feed head c.args.underway.kept c.requires c.keep-kept.result took.self.keeper took.sha waits
+            (λ y at. sym is.ensures ∙ keeps.some.1 (some_is c.keep-kept.result y at)) (λ some. let t = is.ensures ∙ some in (r.stages t (part t)).1) keeps.kept,
+        still_kept known (whole_left g.R.Read.remaining c.args.feed.now) (whole_left g.R.Read.remaining took.feed) head kept waits.kept,
       ),
       stands_by quiet was,
     )
