@@ -1,5 +1,5 @@
 -- Feeds that are resumed for a turn, and set aside after it.
-use Rattle.std.proofs.Common.{◌≡◌, ◌∙◌, ◌++◌, ℕ, List, [], Option, None, Some, refl, sym, ap, subst, take}
+use Rattle.std.proofs.Common.{◌≡◌, ◌∙◌, ◌++◌, ℕ, List, [], Option, None, Some, sym, ap, subst, take}
 use Rattle.std.specs.Prelude.{◌≤◌}
 use Rattle.std.specs.Io.KnownBytes.{Keeps, prepend_known}
 use Rattle.std.specs.Option.{ForSome}

@@ -20,7 +20,6 @@ use Rattle.wire.specs.Feeds.{given_of, left, place_of, waits_in, whole_left}
 use Rattle.wire.specs.Framing.{IsFront, request_of}
 use Rattle.wire.specs.Underways.{IsBegun, IsKept, IsWholeHead}
 use Rattle.wire.specs.Whole.{StandsIn, WaitsWithin}
-use Rattle.wire.specs.declared.counted.Counted.{Counted}
 use Rattle.wire.specs.declared.feed.Feed.{Feed}
 use Rattle.wire.specs.declared.feed.Place.TheVariants as place
 use Rattle.wire.specs.declared.underway.Kept.{Kept}

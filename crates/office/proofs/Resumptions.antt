@@ -1,5 +1,5 @@
 -- Steps that go on with a message whose body has not come whole.
-use Rattle.std.proofs.Common.{◌≡◌, ◌≢◌, ◌≤◌, ◌-◌, ℕ, Bool, true, false, List, [], ◌++◌, Option, None, Some, Result, ◌⊎◌, inl, inr, ap, arith, refl, sym, subst, ◌∙◌}
+use Rattle.std.proofs.Common.{◌≡◌, ◌≤◌, ◌-◌, ℕ, Bool, true, false, List, [], ◌++◌, Option, None, Some, Result, ◌⊎◌, inl, inr, ap, arith, refl, sym, subst, ◌∙◌}
 use denote.Struct.Props.{props}
 use Rattle.std.proofs.Math.Logic.{∥∥₁_elim}
 use Rattle.std.specs.Prelude.{IfSome, IsFalse, IsSome, IsTrue, is_some}
@@ -28,7 +28,6 @@ use Rattle.wire.specs.Underways.{IsBegun, IsKept, IsWholeHead}
 use Rattle.wire.specs.Whole.{BreaksOffWithin, IsOpening, LacksBody, TakesBody, WaitsWithin}
 use Rattle.wire.specs.declared.feed.Feed.{Feed}
 use Rattle.wire.specs.declared.feed.Place.{Place}
-use Rattle.wire.specs.declared.feed.Place.TheVariants as place
 use Rattle.wire.specs.declared.head.Head.{Head}
 use Rattle.wire.specs.declared.session.SessionEnd.{SessionEnd}
 use Rattle.wire.specs.declared.session.SessionEnd.TheVariants.{ReadFault}

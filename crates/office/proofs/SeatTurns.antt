@@ -20,7 +20,7 @@ use Rattle.wire.specs.Seats.{Gathers, Sends, IsNew, left_behind, left_of}
 use Rattle.office.specs.Seats.{AreThreads, HaveReadOn, HaveTurns, LastsOver, IsStreamOf, ReadsInFull, StaysSo, TakesTurn, TellsOneMoment, TellsTurn, TellsTurnOf, had_ended, went_on, read_on, ended, turns_of, waits_of}
 use Rattle.office.specs.Sessions.{most_messages}
 use Rattle.office.specs.declared.connections.responding.Response.{Response}
-use Rattle.office.specs.Stepping.{StepsBy, Steps, TellsStep}
+use Rattle.office.specs.Stepping.{StepsBy, TellsStep}
 use Rattle.wire.specs.declared.seat.Seat.{Seat}
 use Rattle.wire.specs.declared.underway.Underway.{Underway}
 use Rattle.wire.specs.declared.session.SessionEnd.{SessionEnd}

@@ -1,7 +1,6 @@
 -- What a step comes to once its response is written.
-use Rattle.std.proofs.Common.{◌≡◌, ◌≢◌, ◌≤◌, ◌∙◌, ℕ, List, Option, None, Some, inl, inr, ap, refl, subst, sym}
+use Rattle.std.proofs.Common.{◌≡◌, ◌≢◌, ◌≤◌, ℕ, List, Option, None, Some, inl, inr, ap, refl, subst, sym}
 use Rattle.std.specs.Prelude.{IsSomeAnd}
-use Rattle.sigtext.specs.Counts.{Rose}
 use Rattle.sigtext.specs.declared.refusal.Refusal.{Refusal}
 use Rattle.boxes.specs.State.{State}
 use Rattle.boxes.specs.declared.keep.Keeper.{Ghosts}

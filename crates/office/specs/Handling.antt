@@ -1,5 +1,5 @@
 -- What handling one message does to the clock, the writer, the state and the keeper.
-use Rattle.std.specs.Prelude.{◌≡◌, ◌⊎◌, ℕ, List, Option, None, Some, true, false}
+use Rattle.std.specs.Prelude.{ℕ, List, Option, None, Some, true, false}
 use Rattle.std.specs.Io.KnownBytes.{Appends}
 use Rattle.sigtext.specs.declared.refusal.Refusal.TheVariants as rule
 use Rattle.sigtext.specs.Request.{Request}

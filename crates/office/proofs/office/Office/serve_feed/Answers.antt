@@ -1,4 +1,4 @@
-use Rattle.std.proofs.Common.{◌∙◌, ℕ, List, Option, None, Some, inl, inr, refl, subst, arith}
+use Rattle.std.proofs.Common.{◌∙◌, ℕ, Option, None, Some, inl, inr, refl, subst, arith}
 use Rattle.sigtext.specs.Counts.{Rose}
 use Rattle.wire.specs.Feeds.{left, place_of, reader_of}
 use Rattle.wire.specs.declared.session.SessionEnd.{SessionEnd}

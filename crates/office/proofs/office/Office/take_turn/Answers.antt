@@ -1,4 +1,4 @@
-use Rattle.std.proofs.Common.{◌≡◌, ◌∙◌, None, Some, Option, [], ap, arith, inl, length, refl, subst, sym}
+use Rattle.std.proofs.Common.{◌≡◌, ◌∙◌, None, Option, [], ap, arith, inl, length, refl, subst, sym}
 use Rattle.std.specs.Prelude.{is_some, not}
 use Rattle.std.proofs.lemmas.List.{length_push}
 use Rattle.wire.specs.declared.session.SessionEnd.{SessionEnd}
