@@ -1,6 +1,6 @@
 -- Feeds that are resumed for a turn, and set aside after it.
-use Rattle.std.proofs.Common.{◌≡◌, ◌∙◌, ◌++◌, ℕ, List, [], Option, None, Some, refl, sym, ap, subst, take}
-use Rattle.std.specs.Prelude.{◌≤◌, IsSomeAnd}
+use Rattle.std.proofs.Common.{◌≡◌, ◌∙◌, ◌++◌, ℕ, List, [], Option, None, Some, sym, ap, subst, take}
+use Rattle.std.specs.Prelude.{◌≤◌}
 use Rattle.std.specs.Io.KnownBytes.{Keeps, prepend_known}
 use Rattle.std.specs.Option.{ForSome}
 use Rattle.std.proofs.KnownBytes.{Keeps-refl, prepend_known-nil}
@@ -16,21 +16,17 @@ use Rattle.wire.specs.declared.counted.Counted.{Counted}
 use Rattle.wire.specs.declared.feed.Feed.{Feed}
 use Rattle.wire.specs.declared.feed.Place.{Place}
 use Rattle.wire.specs.declared.feed.Place.TheVariants as place
-use Rattle.wire.specs.declared.session.SessionEnd.{SessionEnd}
 use Rattle.wire.specs.declared.standing.Standing.{Standing}
 use Rattle.wire.specs.declared.underway.Kept.{Kept}
 use Rattle.wire.specs.declared.underway.Underway.{Underway}
 use Rattle.wire.proofs.Ties.{none_is, some_is}
-use Rattle.office.specs.Connections.{MayGiveUp}
-use Rattle.office.specs.Premise.{HoldsUnless}
-use Rattle.office.specs.Resuming.{GoesOnFrom}
+use Rattle.office.proofs.Told.{if_answer}
+use Rattle.office.specs.Responding.{IfAnswer, TellsReading}
 use Rattle.office.specs.Seats.{LacksRest}
-use Rattle.office.specs.Stepping.{AwaitsMore, GoesOn, Steps, TellsStep, WaitsBehind}
-use Rattle.office.specs.Turning.{MayEndGivingUp, StandsAside, TellsAside, TurnsTo, turn_of}
-use Rattle.office.specs.declared.connections.resuming.Resumed.TheVariants as resumed
+use Rattle.office.specs.Stepping.{AwaitsMore, StepsBy, WaitsBehind, WaitsIn}
+use Rattle.office.specs.declared.connections.responding.Response.{Response}
+use Rattle.office.specs.declared.connections.responding.Response.TheVariants as response
 use Rattle.office.specs.declared.connections.stepping.Begun.{Begun}
-use Rattle.office.specs.declared.connections.stepping.Stepped.TheVariants as stepped
-use Rattle.office.specs.declared.connections.turning.Aside.{Aside}
 use Rattle.office.specs.declared.connections.turning.Turn.TheVariants as turn
 
 -- nothing was given of an open body
@@ -98,43 +94,36 @@ resumed_begun head u p q l m here given is =
 
 -- ---- a step that is done
 
-module _ {C K R W : Type 0} (gives : C → ℕ → C → Type 0) (remaining : R → Option (List ℕ)) {feed : Feed R} {reader : Counted R} (writer writer' : Counted W) (contents : W → Option (List ℕ)) (clock clock' : C) (k : Ghosts K) (keeper keeper' : K) (s : State) where
-  pub turn_done : (known : Option (List ℕ)) (aside : Aside) (e : Option SessionEnd) → HasSame feed aside.standing reader → (e ≡ None → given_of feed ≡ [])
-      → Steps gives place.Between known (left remaining feed) (remaining (reader_of feed).inner) (contents writer.inner) (contents writer'.inner) clock clock' k keeper keeper' s e
-      → TurnsTo gives known remaining reader writer writer' contents clock clock' k keeper keeper' s aside (turn_of e)
-  turn_done known aside None x none steps =
-      subst (λ (l : Option (List ℕ)). Steps gives place.Between known l (remaining reader.inner) (contents writer.inner) (contents writer'.inner) clock clock' k keeper keeper' s None) (none_aside remaining x (none refl)) steps
-  turn_done known aside (Some e) x none steps =
-      subst (λ (r : Counted R). Steps gives place.Between known (left remaining feed) (remaining r.inner) (contents writer.inner) (contents writer'.inner) clock clock' k keeper keeper' s (Some e)) x.read_by steps
+module _ {C K R : Type 0} (gives : C → ℕ → C → Type 0) (remaining : R → Option (List ℕ)) {feed : Feed R} {reader : Counted R} (clock clock' : C) (k : Ghosts K) (keeper keeper' : K) (s : State) where
+  pub turn_done : (known : Option (List ℕ)) (standing : Standing) (x : Response) → HasSame feed standing reader → IfAnswer x (given_of feed ≡ [])
+      → StepsBy gives place.Between known (left remaining feed) (remaining (reader_of feed).inner) clock clock' k keeper keeper' s x
+      → StepsBy gives place.Between known (left_behind None standing (remaining reader.inner)) (remaining reader.inner) clock clock' k keeper keeper' s x
+  turn_done known standing (response.Answer y) same none steps =
+      subst (λ (r : Counted R). StepsBy gives place.Between known (left_behind None standing (remaining reader.inner)) (remaining r.inner) clock clock' k keeper keeper' s (response.Answer y)) same.read_by
+      (subst (λ (l : Option (List ℕ)). StepsBy gives place.Between known l (remaining (reader_of feed).inner) clock clock' k keeper keeper' s (response.Answer y)) (none_aside remaining same none) steps)
+  turn_done known standing (response.Close q) same none steps =
+      subst (λ (r : Counted R). StepsBy gives place.Between known (left remaining feed) (remaining r.inner) clock clock' k keeper keeper' s (response.Close q)) same.read_by steps
+  turn_done known standing response.Ended same none steps =
+      subst (λ (r : Counted R). StepsBy gives place.Between known (left remaining feed) (remaining r.inner) clock clock' k keeper keeper' s response.Ended) same.read_by steps
+  turn_done known standing response.Truncated same none steps =
+      subst (λ (r : Counted R). StepsBy gives place.Between known (left remaining feed) (remaining r.inner) clock clock' k keeper keeper' s response.Truncated) same.read_by steps
+  turn_done known standing response.ReadFault same none steps =
+      subst (λ (r : Counted R). StepsBy gives place.Between known (left remaining feed) (remaining r.inner) clock clock' k keeper keeper' s response.ReadFault) same.read_by steps
 
-pub stands_done : {R : Type 0} (feed : Feed R) (aside : Aside) (e : Option SessionEnd) → aside.underway ≡ None → stood_at aside.standing ≡ place_of feed → given_of feed ≡ given_before aside.standing
-    → (e ≡ None → (place_of feed ≡ place.Between) × (given_of feed ≡ [])) → StandsAside (turn_of e) aside
-stands_done feed aside None none here given goes = (none, here ∙ (goes refl).0, sym given ∙ (goes refl).1)
-stands_done feed aside (Some e) none here given goes = none
+pub stands_done : {R : Type 0} (feed : Feed R) (standing : Standing) (underway : Option Underway) (x : Response) → underway ≡ None → stood_at standing ≡ place_of feed → given_of feed ≡ given_before standing
+    → IfAnswer x ((place_of feed ≡ place.Between) × (given_of feed ≡ [])) → (underway ≡ None) × IfAnswer x ((stood_at standing ≡ place.Between) × (given_before standing ≡ []))
+stands_done feed standing underway x none here given goes = (none, if_answer x (λ (at : (place_of feed ≡ place.Between) × (given_of feed ≡ [])). (here ∙ at.0, sym given ∙ at.1)) goes)
 
--- the faults of a step, with equal readers
-pub tells_by : {R W : Type 0} (e : Option SessionEnd) (a a' b b' : Counted R) (x y : Counted W) → a ≡ a' → b ≡ b' → TellsStep e a b x y → TellsStep e a' b' x y
-tells_by e a a' b b' x y ea eb tells = subst (λ r. TellsStep e r b' x y) ea (subst (λ r. TellsStep e a r x y) eb tells)
+-- the faults of reading, with equal readers
+pub tells_done : {R : Type 0} (x : Response) (a a' b b' : Counted R) → a ≡ a' → b ≡ b' → TellsReading x a b → TellsReading x a' b'
+tells_done {R = R} x a a' b b' ea eb tells = subst (λ (r : Counted R). TellsReading x r b') ea (subst (λ (r : Counted R). TellsReading x a r) eb tells)
 
--- where the feed stands if the step did not end the session
-pub goes_none : {R : Type 0} (feed : Feed R) (e : Option SessionEnd) → GoesOn (stepped.Done e) feed → e ≡ None → (place_of feed ≡ place.Between) × (given_of feed ≡ [])
-goes_none feed e goes is = subst (λ (o : Option SessionEnd). GoesOn (stepped.Done o) feed) is goes
-
-pub goes_from : {R : Type 0} (feed : Feed R) (e : Option SessionEnd) → GoesOnFrom (resumed.Done e) feed → e ≡ None → (place_of feed ≡ place.Between) × (given_of feed ≡ [])
-goes_from feed e goes is = subst (λ (o : Option SessionEnd). GoesOnFrom (resumed.Done o) feed) is goes
-
-pub tells_done : {R W : Type 0} (e : Option SessionEnd) (a a' b b' : Counted R) (x y : Counted W) → a ≡ a' → b ≡ b' → TellsStep e a b x y → TellsAside (turn_of e) a' b' x y
-tells_done None a a' b b' x y ea eb tells = tells_by None a a' b b' x y ea eb tells
-tells_done (Some e) a a' b b' x y ea eb tells = tells_by (Some e) a a' b b' x y ea eb tells
-
-pub holds_done : {K : Type 0} (k : Ghosts K) (old new : K) (e : Option SessionEnd) → HoldsUnless k old new (IsSomeAnd e (MayGiveUp k old new)) → HoldsUnless k old new (MayEndGivingUp k old new (turn_of e))
-holds_done k old new None holds = holds
-holds_done k old new (Some e) holds = holds
+pub tells_waits : {R : Type 0} (a a' b b' : Counted R) → a ≡ a' → b ≡ b' → b.faults ≡ a.faults → b'.faults ≡ a'.faults
+tells_waits {R = R} a a' b b' ea eb tells = subst (λ (r : Counted R). b'.faults ≡ r.faults) ea (subst (λ (r : Counted R). r.faults ≡ a.faults) eb tells)
 
 -- it did not only read on
-pub done_not_waits : (e : Option SessionEnd) → turn_of e ≡ turn.ReadOn → ⊥
-done_not_waits None is = absurd cc
-done_not_waits (Some e) is = absurd cc
+pub done_not_waits : {P : Type 0} (x : Response) → turn.Done x ≡ turn.ReadOn → P
+done_not_waits x is = absurd cc
 
 -- ---- a step that waits
 
@@ -178,10 +167,9 @@ pub stands_begun : (standing : Standing) (u : Underway) → IsUnderway u standin
     → (Some u ≡ None → (stood_at standing ≡ place.Between) × (given_before standing ≡ [])) × ForSome (Some u) (λ v. IsUnderway v standing) × LacksRest (Some u) standing
 stands_begun standing u begun more = (λ none. absurd (none_is u (sym none)), λ v at. subst (λ (w : Underway). IsUnderway w standing) (some_is u v at) begun, more)
 
-pub none_there : {R : Type 0} (feed : Feed R) (block : List ℕ) (o : Option Begun) → o ≡ None → WaitsBehind feed block (stepped.Waits o)
-    → (place_of feed ≡ place.Between) × (given_of feed ≡ []) × AwaitsHead (waits_in feed)
-none_there feed block o is waits = subst (λ (x : Option Begun). WaitsBehind feed block (stepped.Waits x)) is waits
+pub none_there : {R : Type 0} (feed : Feed R) (block : List ℕ) (o : Option Begun) → o ≡ None → WaitsBehind feed block o → (place_of feed ≡ place.Between) × (given_of feed ≡ []) × AwaitsHead (waits_in feed)
+none_there feed block o is waits = subst (λ (x : Option Begun). WaitsBehind feed block x) is waits
 
-pub begun_there : {R : Type 0} (feed : Feed R) (block : List ℕ) (o : Option Begun) (b : Begun) → o ≡ Some b → WaitsBehind feed block (stepped.Waits o)
-    → (b.len ≤ most_head) × IsBegun (take b.len block) b.size b.kept (place_of feed) (given_of feed) × AwaitsMore (take b.len block) feed
-begun_there feed block o b is waits = subst (λ (x : Option Begun). WaitsBehind feed block (stepped.Waits x)) is waits
+pub begun_there : {R : Type 0} (feed : Feed R) (block : List ℕ) (o : Option Begun) (b : Begun) → o ≡ Some b → WaitsBehind feed block o
+    → (b.len ≤ most_head) × WaitsIn feed (take b.len block) b.size b.kept
+begun_there feed block o b is waits = subst (λ (x : Option Begun). WaitsBehind feed block x) is waits

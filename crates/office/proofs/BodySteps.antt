@@ -29,13 +29,15 @@ use Rattle.office.specs.Foreseeing.{AreStaged, Foresees, IsUpload}
 use Rattle.office.specs.Receiving.{StagesBody}
 use Rattle.sigtext.specs.Readable.{IsReadable}
 use Rattle.office.specs.Sessions.{HasBegunMessage}
-use Rattle.office.specs.Stepping.{IsClosed, IsExpected, LeavesOff, Steps}
-use Rattle.office.specs.declared.connections.handling.Handled.{Handled}
-use Rattle.office.specs.declared.connections.handling.Handled.TheVariants as handled
+use Rattle.office.specs.Responding.{IsClosed}
+use Rattle.office.specs.Stepping.{HandlesBy, IsExpected, LeavesOff, Steps, StepsBy}
+use Rattle.office.specs.declared.connections.responding.Handled.{Handled}
+use Rattle.office.specs.declared.connections.responding.Handled.TheVariants as handled
+use Rattle.office.specs.declared.connections.responding.Response.TheVariants as response
+use Rattle.wire.specs.declared.answer.Answer.{Answer}
 use Rattle.wire.specs.declared.session.SessionEnd.{SessionEnd}
 use Rattle.wire.specs.declared.session.SessionEnd.TheVariants.{ReadFault}
 use Rattle.office.specs.Answering.{is_head}
-use Rattle.office.specs.Connections.{MayGiveUp}
 use Rattle.office.specs.Handling.{Handles, end_of}
 use Rattle.office.specs.Premise.{IsFault, WasKept}
 use Rattle.boxes.specs.declared.keep.KeepFault.{KeepFault}
@@ -143,16 +145,17 @@ handled_step remaining new gives p known output output' clock clock' k b c s tex
 handled_step remaining new gives p known output output' clock clock' k b c s text has_length body m handled.Broken handles =
     broken_step gives p known (remaining (reader_of new).inner) output output' clock clock' k b c s text has_length body (waits_in new) m handles
 
-module _ {R C K : Type 0} (remaining : R → Option (List ℕ)) (size : ℕ) (old new : Feed R) (gives : C → ℕ → C → Type 0) (p : Place) (known output output' : Option (List ℕ)) (clock clock' : C) (k : Ghosts K) (a b c : K) (s : State)
+module _ {R C K : Type 0} (remaining : R → Option (List ℕ)) (size : ℕ) (old new : Feed R) (gives : C → ℕ → C → Type 0) (p : Place) (known : Option (List ℕ)) (clock clock' : C) (k : Ghosts K) (a b c : K) (s : State)
     (foreseen : Result Prospect Refusal) (to_head : Bool) {text : List ℕ} (x : IsExpected s size known (whole_left remaining old) foreseen to_head text) where
-  -- the whole body came, and the message was handled
-  pub whole_step : (h : Handled) (told : Body) → CameWhole remaining size old new k b foreseen told → Before k a b s
-      → ((r : Request) → Foresees s r foreseen → (foreseen ≢ Err rule.TryAgain) → to_head ≡ is_head r → (IsUpload foreseen → AreStaged k b r.body told) → Handles gives clock clock' output output' k b c s r h)
-      → Steps gives p known (left remaining new) (remaining (reader_of new).inner) output output' clock clock' k a c s (end_of h)
-  whole_step h told came before handles =
+  -- the whole body came, and this answers the message
+  pub whole_step : (y : Answer) (told : Body) → CameWhole remaining size old new k b foreseen told → Before k a b s
+      → ((r : Request) → Foresees s r foreseen → (foreseen ≢ Err rule.TryAgain) → to_head ≡ is_head r → (IsUpload foreseen → AreStaged k b r.body told) → HandlesBy gives clock clock' k b c s r y)
+      → StepsBy gives p known (left remaining new) (remaining (reader_of new).inner) clock clock' k a c s (response.Answer y)
+  whole_step y told came before handles = λ output output' h sent.
       let m = next_message known (whole_left remaining old) x.opening (left remaining new) came.body came.taken.0 came.taken.3 in
       steps_after gives p known (left remaining new) (remaining (reader_of new).inner) output output' clock clock' k a b c s (end_of h) before
-      (handled_step remaining new gives p known output output' clock clock' k b c s text x.has_length came.body m h (handles (request_of x.opening.opens.head x.has_length came.body) (x.foresees came.body came.taken.0) x.tells (x.head came.body) came.staged))
+      (handled_step remaining new gives p known output output' clock clock' k b c s text x.has_length came.body m h
+      (handles (request_of x.opening.opens.head x.has_length came.body) (x.foresees came.body came.taken.0) x.tells (x.head came.body) came.staged output output' h sent))
 
 module _ {R C K : Type 0} (remaining : R → Option (List ℕ)) (size : ℕ) (old new : Feed R) (gives : C → ℕ → C → Type 0) (p : Place) (known output output' : Option (List ℕ)) (clock : C) (k : Ghosts K) (a b : K) (s : State)
     (foreseen : Result Prospect Refusal) (to_head : Bool) {text : List ℕ} (x : IsExpected s size known (whole_left remaining old) foreseen to_head text) where
@@ -164,14 +167,14 @@ module _ {R C K : Type 0} (remaining : R → Option (List ℕ)) (size : ℕ) (ol
       (read_on known (whole_left remaining old) x.opening (remaining (reader_of new).inner) given taken) (inr (upload_begun s size known (whole_left remaining old) foreseen to_head x given upload)) closed
 
   -- the stream ended within the body
-  pub lacking_step : (e : SessionEnd) (mid : K) (upload : Bool) → Quiet k a mid ⊥ → Quiet k mid b (MayGiveUp k mid b e) → WasKept k a b s → LacksBody remaining size old new → (IsTrue upload → IsUpload foreseen)
-      → LeavesOff output output' k mid b upload e → Steps gives p known (left remaining new) (remaining (reader_of new).inner) output output' clock clock k a b s (Some e)
-  lacking_step e mid upload first second kept lacking is (inl (closed, rest)) =
+  pub lacking_step : (q : Refusal) (e : SessionEnd) (mid : K) (upload : Bool) → Quiet k a mid ⊥ → Quiet k mid b (q ≡ rule.TryAgain) → WasKept k a b s → LacksBody remaining size old new → (IsTrue upload → IsUpload foreseen)
+      → LeavesOff k mid b upload q → IsClosed output output' q e → Steps gives p known (left remaining new) (remaining (reader_of new).inner) output output' clock clock k a b s (Some e)
+  lacking_step q e mid upload first second kept lacking up_is (inl (is, rest)) closed =
       closed_step gives p known (left remaining new) (remaining (reader_of new).inner) output output' clock k a b s rule.BodyIncomplete e
       (leaves_quiet k a b s ⊥ (quiet_then first (record { same = second.same; crash = second.crash; rest = rest })) kept (λ none. none))
-      (lacks known (whole_left remaining old) x.opening lacking.1 lacking.2) closed
-  lacking_step e mid upload first second kept lacking is (inr (closed, up)) =
-      given_up_step e lacking.3 (MayGiveUp k mid b e) (quiet_then first second) kept lacking.4 (is up) closed
+      (lacks known (whole_left remaining old) x.opening lacking.1 lacking.2) (subst (λ (r : Refusal). IsClosed output output' r e) is closed)
+  lacking_step q e mid upload first second kept lacking up_is (inr (is, up)) closed =
+      given_up_step e lacking.3 (q ≡ rule.TryAgain) (quiet_then first second) kept lacking.4 (up_is up) (subst (λ (r : Refusal). IsClosed output output' r e) is closed)
 
 module _ {R C K T : Type 0} (remaining : R → Option (List ℕ)) (size : ℕ) (old new : Feed R) (gives : C → ℕ → C → Type 0) (p : Place) (known output : Option (List ℕ)) (clock : C) (k : Ghosts K) (a b : K) (s : State)
     (foreseen : Result Prospect Refusal) (to_head : Bool) {text : List ℕ} (x : IsExpected s size known (whole_left remaining old) foreseen to_head text) where

@@ -20,7 +20,6 @@ use Rattle.wire.specs.Feeds.{given_of, left, place_of, waits_in, whole_left}
 use Rattle.wire.specs.Framing.{IsFront, request_of}
 use Rattle.wire.specs.Underways.{IsBegun, IsKept, IsWholeHead}
 use Rattle.wire.specs.Whole.{StandsIn, WaitsWithin}
-use Rattle.wire.specs.declared.counted.Counted.{Counted}
 use Rattle.wire.specs.declared.feed.Feed.{Feed}
 use Rattle.wire.specs.declared.feed.Place.TheVariants as place
 use Rattle.wire.specs.declared.underway.Kept.{Kept}
@@ -152,11 +151,10 @@ short_head o is = subst (λ (l : ℕ). l ≤ 8192) (sym is) o.is_front.short
 pub taken_all : (text : List ℕ) {len : ℕ} → len ≡ length text → take len text ≡ text
 taken_all text is = ap (λ (n : ℕ). take n text) is ∙ take_all (length text) text (omega arith)
 
--- a call that changed nothing, in which nothing was told or written
-pub stands_by : {C K W : Type 0} {clock : C} {writer : Counted W} {k : Ghosts K} {a b : K} {s : State} → Quiet k a b ⊥ → WasKept k a b s → StandsBy clock clock writer writer k a b s
+-- a call that changed nothing, in which nothing was told
+pub stands_by : {C K : Type 0} {clock : C} {k : Ghosts K} {a b : K} {s : State} → Quiet k a b ⊥ → WasKept k a b s → StandsBy clock clock k a b s
 stands_by {k = k} {a = a} {b = b} {s = s} quiet kept = record {
   told = refl;
-  written = refl;
   left = record { means = quiet.same s kept.means; sound = kept.sound };
   held = (quiet.rest.counted (λ none. none), λ was. quiet.rest.opened kept.is_honest was (λ none. none));
   lasts = never_changed refl (quiet.crash s kept.means kept.is_honest);

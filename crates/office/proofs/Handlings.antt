@@ -1,8 +1,6 @@
 -- How a message ended, by what was sent.
-use Rattle.std.proofs.Common.{◌≡◌, ◌≢◌, ℕ, Bool, false, List, [], Option, None, Some, Result, Ok, Err, refl, ap, subst, ◌∙◌, ⊎_elim, inl, inr}
-use Rattle.std.specs.Prelude.{IfNone, IsSomeAnd}
+use Rattle.std.proofs.Common.{◌≡◌, ◌≢◌, ℕ, Bool, false, List, [], Option, Result, Ok, Err, refl, ap, subst, ◌∙◌, ⊎_elim, inl, inr}
 use Rattle.std.specs.Io.KnownBytes.{Appends}
-use Rattle.sigtext.specs.Counts.{Rose}
 use Rattle.sigtext.specs.declared.refusal.Refusal.TheVariants as rule
 use Rattle.httparse.specs.Grammar.{RequestHead}
 use Rattle.httparse.proofs.GrammarLemmas.{request_unique}
@@ -12,25 +10,23 @@ use Rattle.wire.specs.Framing.{IsHead, headers_of, request_of}
 use Rattle.boxes.specs.State.{State}
 use Rattle.boxes.specs.declared.keep.Keeper.{Ghosts}
 use Rattle.wire.specs.declared.answer.Answer.{Answer}
-use Rattle.wire.specs.declared.counted.Counted.{Counted}
 use Rattle.sigtext.specs.Bytes.{IsBeginning}
 use Rattle.wire.specs.Answers.{answer_text}
 use Rattle.wire.specs.Answers as said
 use Rattle.wire.specs.Shown.{said_of, whole_text}
-use Rattle.office.specs.declared.connections.handling.Handled.{Handled}
-use Rattle.office.specs.declared.connections.handling.Handled.TheVariants.{Answered, GaveUp, Broken}
+use Rattle.office.specs.declared.connections.responding.Handled.{Handled}
+use Rattle.office.specs.declared.connections.responding.Handled.TheVariants.{Answered, GaveUp, Broken}
 use Rattle.office.specs.Crashes.{AddsAsked, Endures, IsAsked}
 use Rattle.office.specs.Foreseeing.{Foresees, IsReadOf}
 use Rattle.office.specs.declared.requests.foreseeing.Prospect.{Prospect}
 use Rattle.sigtext.specs.declared.refusal.Refusal.{Refusal}
-use Rattle.office.specs.Connections.{MayGiveUp, TellsFaults}
-use Rattle.office.specs.Handling.{Handles, MayBeGivenUp, end_of, answered, gave_up_at, broke, broke_giving_up_at}
+use Rattle.office.specs.Connections.{MayGiveUp}
+use Rattle.office.specs.Handling.{Handles, answered, gave_up_at, broke, broke_giving_up_at}
 use Rattle.office.specs.Offices.{IsTryAgain, IsAnswered}
 use Rattle.office.specs.Premise.{HoldsUnless, HoldsUp, IsLeft}
 use Rattle.sigtext.specs.Readable.{IsReadable}
-use Rattle.office.specs.Sent.{IsSent}
+use Rattle.office.specs.Responding.{IsClosed, IsSent}
 use Rattle.office.specs.Sessions.{closing}
-use Rattle.office.specs.Stepping.{IsClosed, TellsStep}
 use Rattle.wire.specs.declared.session.SessionEnd.{SessionEnd}
 use Rattle.wire.specs.declared.session.SessionEnd.TheVariants.{Ended, Truncated, Refused, Limit, ReadFault, WriteFault}
 use Rattle.office.proofs.Endurance.{through}
@@ -46,12 +42,6 @@ again_written a e = ap (λ r. answer_text a.is_head (said_of r)) e ∙ closes_al
 held_up : {K : Type 0} {k : Ghosts K} {keeper keeper' : K} {gave_up : Type 0} → HoldsUnless k keeper keeper' gave_up → k.is_honest keeper' → (gave_up → ⊥) → HoldsUp k false keeper keeper'
 held_up rest honest other = (rest.counted other, λ was. rest.opened honest was other)
 
--- refusal 40 was written, or writing it broke off
-pub sent_again : (old new : Option (List ℕ)) (a : Answer) (h : Handled) → IsSent old new a h → IsTryAgain a → MayBeGivenUp h
-sent_again old new a Answered sent again = absurd (sent.0 again)
-sent_again old new a GaveUp sent again = inl refl
-sent_again old new a Broken sent again = inr refl
-
 -- a connection that refusal 40 closed
 pub closed_again : {K : Type 0} (k : Ghosts K) (a b : K) (old new : Option (List ℕ)) (e : SessionEnd) → IsClosed old new rule.TryAgain e → MayGiveUp k a b e
 closed_again k a b old new (Refused number) closed = inl (ap Refused closed.0)
@@ -60,38 +50,6 @@ closed_again k a b old new Ended closed = absurd closed
 closed_again k a b old new Truncated closed = absurd closed
 closed_again k a b old new Limit closed = absurd closed
 closed_again k a b old new ReadFault closed = absurd closed
-
--- ---- how a session ends after a message
-
-pub if_none_so : {X P : Type 0} (end : Option X) → P → IfNone end P
-if_none_so None p = p
-if_none_so (Some e) p = tt
-
-pub handled_may_give_up : {K : Type 0} (k : Ghosts K) (a b : K) (h : Handled) → MayBeGivenUp h → IsSomeAnd (end_of h) (MayGiveUp k a b)
-handled_may_give_up k a b Answered may = ⊎_elim (λ e. absurd cc) (λ e. absurd cc) may
-handled_may_give_up k a b GaveUp may = inl refl
-handled_may_give_up k a b Broken may = inr (inl refl)
-
-pub handled_faults : {R W : Type 0} (h : Handled) (a b : Counted R) (old new : Counted W) → b.faults ≡ a.faults → (h ≡ Broken → Rose old.faults new.faults) → (h ≢ Broken → new.faults ≡ old.faults)
-    → TellsStep (end_of h) a b old new
-handled_faults Answered a b old new same rose clean = (same, clean (λ e. absurd cc))
-handled_faults GaveUp a b old new same rose clean =
-    record { read = λ e. absurd cc; not_read = λ _. same; written = λ e. absurd cc; not_written = λ _. clean (λ e. absurd cc) }
-handled_faults Broken a b old new same rose clean =
-    record { read = λ e. absurd cc; not_read = λ _. same; written = λ _. rose refl; not_written = λ other. absurd (other refl) }
-
--- ---- the faults that were counted
-
--- the reader counted none before
-pub tells_from : {R W : Type 0} (end : Option SessionEnd) (a b c : Counted R) (old new : Counted W) → b.faults ≡ a.faults → TellsStep end b c old new → TellsStep end a c old new
-tells_from None a b c old new same tells = (tells.0 ∙ same, tells.1)
-tells_from (Some e) a b c old new same tells =
-    record { read = λ is. subst (λ n. Rose n c.faults) same (tells.read is); not_read = λ other. tells.not_read other ∙ same; written = tells.written; not_written = tells.not_written }
-
--- a connection that was closed
-pub closed_faults : {R W : Type 0} (e : SessionEnd) (a b : Counted R) (old new : Counted W) → b.faults ≡ a.faults → e ≢ ReadFault → (e ≡ WriteFault → Rose old.faults new.faults) → (e ≢ WriteFault → new.faults ≡ old.faults)
-    → TellsFaults e a b old new
-closed_faults e a b old new same end rose clean = record { read = λ is. absurd (end is); not_read = λ _. same; written = rose; not_written = clean }
 
 -- a message whose moment was taken
 pub handled_at : {C K : Type 0} (gives : C → ℕ → C → Type 0) (clock clock' : C) (old new : Option (List ℕ)) (k : Ghosts K) (keeper keeper' : K) (s : State) (r : Request) (now : ℕ) (a : Answer) (h : Handled)

@@ -23,6 +23,7 @@ pub mod Begun
 pub mod BodySteps
 pub mod BodyWaits
 pub mod StepWaits
+pub mod Told
 pub mod Resumptions
 pub mod KeeperCalls
 pub mod Questions

@@ -1,5 +1,5 @@
 -- Steps that go on with a message whose body has not come whole.
-use Rattle.std.proofs.Common.{◌≡◌, ◌≢◌, ◌≤◌, ◌-◌, ℕ, Bool, true, false, List, [], ◌++◌, Option, None, Some, Result, ◌⊎◌, inl, inr, ap, arith, refl, sym, subst, ◌∙◌}
+use Rattle.std.proofs.Common.{◌≡◌, ◌≤◌, ◌-◌, ℕ, Bool, true, false, List, [], ◌++◌, Option, None, Some, Result, ◌⊎◌, inl, inr, ap, arith, refl, sym, subst, ◌∙◌}
 use denote.Struct.Props.{props}
 use Rattle.std.proofs.Math.Logic.{∥∥₁_elim}
 use Rattle.std.specs.Prelude.{IfSome, IsFalse, IsSome, IsTrue, is_some}
@@ -9,7 +9,6 @@ use Rattle.std.proofs.KnownBytes.{Consumes-trans, Keeps-trans}
 use Rattle.sigtext.specs.Bytes.{AreBytes}
 use Rattle.httparse.specs.Grammar.{RequestHead}
 use Rattle.httparse.proofs.GrammarLemmas.{request_unique}
-use Rattle.sigtext.specs.Counts.{Rose}
 use Rattle.sigtext.specs.Limits.{most_body}
 use Rattle.sigtext.specs.Readable.{IsReadable}
 use Rattle.sigtext.specs.Request.{Request}
@@ -27,13 +26,11 @@ use Rattle.wire.specs.Framing.{IsFront, request_of}
 use Rattle.wire.specs.Openings.{ArePartsOf}
 use Rattle.wire.specs.Underways.{IsBegun, IsKept, IsWholeHead}
 use Rattle.wire.specs.Whole.{BreaksOffWithin, IsOpening, LacksBody, TakesBody, WaitsWithin}
-use Rattle.wire.specs.declared.counted.Counted.{Counted}
 use Rattle.wire.specs.declared.feed.Feed.{Feed}
 use Rattle.wire.specs.declared.feed.Place.{Place}
-use Rattle.wire.specs.declared.feed.Place.TheVariants as place
 use Rattle.wire.specs.declared.head.Head.{Head}
 use Rattle.wire.specs.declared.session.SessionEnd.{SessionEnd}
-use Rattle.wire.specs.declared.session.SessionEnd.TheVariants.{ReadFault, WriteFault}
+use Rattle.wire.specs.declared.session.SessionEnd.TheVariants.{ReadFault}
 use Rattle.wire.specs.declared.underway.Kept.{Kept}
 use Rattle.wire.proofs.Backlogs.{consumes_waiting, prepend-kept}
 use Rattle.wire.proofs.WaitingFronts.{front_further}
@@ -42,12 +39,11 @@ use Rattle.office.specs.Frames.{Quiet}
 use Rattle.office.specs.Handling.{end_of}
 use Rattle.office.specs.Premise.{EndsUnstaged, IsGivenUp, WasKept}
 use Rattle.office.specs.Receiving.{HoldsPart}
-use Rattle.office.specs.Resuming.{EndsWhole, GoesOnFrom, TellsWhole, given_up, handled}
+use Rattle.office.specs.Responding.{IsClosed}
+use Rattle.office.specs.Resuming.{EndsWhole, given_up, handled}
 use Rattle.office.specs.Sessions.{HasBegunMessage}
-use Rattle.office.specs.Stepping.{IsClosed, Steps, TellsStep}
-use Rattle.office.specs.declared.connections.handling.Handled.{Handled}
-use Rattle.office.specs.declared.connections.handling.Handled.TheVariants as message
-use Rattle.office.specs.declared.connections.resuming.Resumed.TheVariants as resumed
+use Rattle.office.specs.Stepping.{Steps, StepsBy}
+use Rattle.office.specs.declared.connections.responding.Response.{Response}
 use Rattle.office.specs.declared.requests.foreseeing.Prospect.{Prospect}
 use Rattle.office.proofs.BodySteps.{awaits, handled_step, has_begun, lacks, next_message, read_on}
 use Rattle.office.proofs.Foreseen.{upload_readable}
@@ -83,18 +79,18 @@ same_parts text parts fields has_length n o f =
 
 -- ---- steps that are done
 
-module _ {R C K : Type 0} (remaining : R → Option (List ℕ)) (size : ℕ) (old new : Feed R) (gives : C → ℕ → C → Type 0) (p : Place) (known output output' : Option (List ℕ)) (clock clock' : C) (k : Ghosts K) (a b c : K) (s : State)
+module _ {R C K : Type 0} (remaining : R → Option (List ℕ)) (size : ℕ) (old new : Feed R) (gives : C → ℕ → C → Type 0) (p : Place) (known : Option (List ℕ)) (clock clock' : C) (k : Ghosts K) (a b c : K) (s : State)
     (text : List ℕ) (kept : Keeps known (prepend_known text (whole_left remaining old))) where
   -- the whole body came
-  pub resumed_whole : (has_length : Bool) (o : Opens text has_length size) (body : List ℕ) (e : Option SessionEnd) → TakesBody remaining size old new body → Before k a b s
-      → EndsWhole gives clock clock' output output' k b c s (request_of o.head has_length body) e → Steps gives p known (left remaining new) (remaining (reader_of new).inner) output output' clock clock' k a c s e
-  resumed_whole has_length o body _ taken before (handled mid h held adds handles) =
+  pub resumed_whole : (has_length : Bool) (o : Opens text has_length size) (body : List ℕ) (x : Response) → TakesBody remaining size old new body → Before k a b s
+      → EndsWhole gives clock clock' k b c s (request_of o.head has_length body) x → StepsBy gives p known (left remaining new) (remaining (reader_of new).inner) clock clock' k a c s x
+  resumed_whole has_length o body _ taken before (handled mid y held adds handles) = λ output output' h sent.
       let reader = remaining (reader_of new).inner in
       let m = next_message known (whole_left remaining old) (opening_left o known (whole_left remaining old) kept) (left remaining new) body taken.0 taken.3 in
       steps_after gives p known (left remaining new) reader output output' clock clock' k a b c s (end_of h) before
       (steps_after gives p known (left remaining new) reader output output' clock clock' k b mid c s (end_of h) (record { faults = held.0; open_still = held.1; adds = adds })
-      (handled_step remaining new gives p known output output' clock clock' k mid c s text has_length body m h handles))
-  resumed_whole has_length o body _ taken before (given_up e same held adds keeps r closed) =
+      (handled_step remaining new gives p known output output' clock clock' k mid c s text has_length body m h (handles output output' h sent)))
+  resumed_whole has_length o body _ taken before (given_up same held adds keeps r) = λ output output' e closed.
       let reader = remaining (reader_of new).inner in
       let x = opening_left o known (whole_left remaining old) kept in
       let given = body ++ waits_in new in
@@ -179,11 +175,6 @@ still_kept known mid new text kept more = Keeps-trans known (prepend_known text 
 
 -- ---- a message whose body came
 
--- a message may begin after it, unless the session ended
-pub whole_goes_on : {R : Type 0} (feed : Feed R) (e : Option SessionEnd) → place_of feed ≡ place.Between → given_of feed ≡ [] → GoesOnFrom (resumed.Done e) feed
-whole_goes_on feed None at none = (at, none)
-whole_goes_on feed (Some e) at none = tt
-
 -- one that is given up is readable
 pub lost_readable : (r : Request) (foreseen : Result Prospect Refusal) → IsGivenUp foreseen ⊎ IsUpload foreseen → IsReadOf r foreseen → IsReadable r
 lost_readable r foreseen (inl is) read = read_given_up r foreseen is read
@@ -208,32 +199,3 @@ same_kept o a b is at = cc
 pub unkept : {P : Type 0} (kept : Option Kept) (is_kept : Bool) → is_kept ≡ is_some kept → IsFalse is_kept → (kept ≡ None → P) → P
 unkept None is_kept is not holds = holds refl
 unkept (Some x) is_kept is not holds = absurd cc
-
--- ---- the faults that were counted
-
-some_same : (x y : SessionEnd) → Some x ≡ Some y → x ≡ y
-some_same x y is = cc
-
--- a connection that was closed
-pub closed_whole : {W : Type 0} (e : SessionEnd) (old new : Counted W) → e ≢ ReadFault → (e ≡ WriteFault → Rose old.faults new.faults) → (e ≢ WriteFault → new.faults ≡ old.faults) → TellsWhole (Some e) old new
-closed_whole e old new end rose clean = record {
-  not_read = λ is. end (some_same e ReadFault is);
-  written = λ is. rose (some_same e WriteFault is);
-  not_written = λ other. clean (λ is. other (ap Some is));
-}
-
--- a message that was handled
-pub handled_whole : {W : Type 0} (h : Handled) (old new : Counted W) → (h ≡ message.Broken → Rose old.faults new.faults) → (h ≢ message.Broken → new.faults ≡ old.faults) → TellsWhole (end_of h) old new
-handled_whole message.Answered old new rose clean = record { not_read = λ is. absurd cc; written = λ is. absurd cc; not_written = λ _. clean (λ is. absurd cc) }
-handled_whole message.GaveUp old new rose clean = record { not_read = λ is. absurd cc; written = λ is. absurd cc; not_written = λ _. clean (λ is. absurd cc) }
-handled_whole message.Broken old new rose clean = record { not_read = λ is. absurd cc; written = λ _. rose refl; not_written = λ other. absurd (other refl) }
-
--- the same in a step
-pub whole_faults : {R W : Type 0} (e : Option SessionEnd) (a b : Counted R) (old new : Counted W) → b.faults ≡ a.faults → TellsWhole e old new → TellsStep e a b old new
-whole_faults None a b old new same tells = (same, tells.not_written (λ is. absurd cc))
-whole_faults (Some e) a b old new same tells = record {
-  read = λ is. absurd (tells.not_read (ap Some is));
-  not_read = λ _. same;
-  written = λ is. tells.written (ap Some is);
-  not_written = λ other. tells.not_written (λ is. other (some_same e WriteFault is));
-}

@@ -19,7 +19,8 @@ use Rattle.wire.specs.Crowds.{GivenTurn}
 use Rattle.wire.specs.Seats.{Gathers, Sends, IsNew, left_behind, left_of}
 use Rattle.office.specs.Seats.{AreThreads, HaveReadOn, HaveTurns, LastsOver, IsStreamOf, ReadsInFull, StaysSo, TakesTurn, TellsOneMoment, TellsTurn, TellsTurnOf, had_ended, went_on, read_on, ended, turns_of, waits_of}
 use Rattle.office.specs.Sessions.{most_messages}
-use Rattle.office.specs.Stepping.{Steps, TellsStep}
+use Rattle.office.specs.declared.connections.responding.Response.{Response}
+use Rattle.office.specs.Stepping.{StepsBy, TellsStep}
 use Rattle.wire.specs.declared.seat.Seat.{Seat}
 use Rattle.wire.specs.declared.underway.Underway.{Underway}
 use Rattle.wire.specs.declared.session.SessionEnd.{SessionEnd}
@@ -33,14 +34,11 @@ use Rattle.wire.proofs.Ties.{none_is}
 use Rattle.office.proofs.Weaving.{AllReadOn, AreThreadsOf, IsThreadOf, SoFar, all_last, answered_more, closed_more, finishes, gathered_more, lost_of, none_gave_up, opens, read_on_more, sent_more, threads_rose}
 
 -- the same step, with equal places and bytes
-pub steps_by : {C K : Type 0} (gives : C → ℕ → C → Type 0) (p p' : Place) (old old' new new' reader reader' output output' : Option (List ℕ)) (clock clock' : C) (k : Ghosts K) (keeper keeper' : K) (s : State) (e : Option SessionEnd)
-    → p ≡ p' → old ≡ old' → new ≡ new' → reader ≡ reader'
-    → Steps gives p old new reader output output' clock clock' k keeper keeper' s e → Steps gives p' old' new' reader' output output' clock clock' k keeper keeper' s e
-steps_by gives p p' old old' new new' reader reader' output output' clock clock' k keeper keeper' s e ep eo en er h =
-    subst (λ x. Steps gives x old' new' reader' output output' clock clock' k keeper keeper' s e) ep
-    (subst (λ x. Steps gives p x new' reader' output output' clock clock' k keeper keeper' s e) eo
-    (subst (λ x. Steps gives p old x reader' output output' clock clock' k keeper keeper' s e) en
-    (subst (λ x. Steps gives p old new x output output' clock clock' k keeper keeper' s e) er h)))
+pub steps_by : {C K : Type 0} (gives : C → ℕ → C → Type 0) (p p' : Place) (old old' new reader : Option (List ℕ)) (clock clock' : C) (k : Ghosts K) (keeper keeper' : K) (s : State) (x : Response)
+    → p ≡ p' → old ≡ old' → StepsBy gives p old new reader clock clock' k keeper keeper' s x → StepsBy gives p' old' new reader clock clock' k keeper keeper' s x
+steps_by gives p p' old old' new reader clock clock' k keeper keeper' s x ep eo steps =
+    subst (λ (q : Place). StepsBy gives q old' new reader clock clock' k keeper keeper' s x) ep
+    (subst (λ (l : Option (List ℕ)). StepsBy gives p l new reader clock clock' k keeper keeper' s x) eo steps)
 
 -- ---- the faults that were told
 
@@ -202,14 +200,14 @@ module _ {R W : Type 0} (remaining : R → Option (List ℕ)) (contents : W → 
           so_far = answered_more gives k t.sittings clock clock' keeper keeper' s mid t.so_far p dx z at.within at.is was_open most
               (left_of remaining new) (remaining new.reader.inner) (contents new.writer.inner) (part_of new) clock'' keeper'' after (subst (λ n. n ≤ most_messages) served new.few) goes;
         }
-    turns_more most (read_on was_open is_open served waited keeps stood same_state) full t =
+    turns_more most (read_on was_open is_open served waited keeps same_writer stood same_state) full t =
         let dx = sitting_of d d false None in
         let at = stands_there fs ns t.sittings p d dx lt t.are in
         let old = get_or ns p d in
         let x = get_or t.sittings p dx in
         let z = sitting_of at.first old x.gave_up x.lost in
         let y = reads_on z (left_of remaining new) (remaining new.reader.inner) (part_of new) in
-        let unwritten : z.written ≡ contents new.writer.inner = ap (λ (w : Counted W). contents w.inner) (sym stood.written) in
+        let unwritten : z.written ≡ contents new.writer.inner = ap (λ (w : Counted W). contents w.inner) (sym same_writer) in
         let (bound, is_bound, needs) = more_needed remaining old new waited keeps most full in
         let now : List GivenTurn = whose ++ record { whose = p; most = most } ∷ [] in
         record {

@@ -20,7 +20,7 @@ use Rattle.wire.specs.Whole.{BreaksOff, Brings}
 use Rattle.wire.proofs.Halves.{message_stands}
 use Rattle.wire.specs.declared.session.SessionEnd.{SessionEnd}
 use Rattle.wire.specs.declared.session.SessionEnd.TheVariants.{Ended, Truncated, Refused, Limit, ReadFault, WriteFault}
-use Rattle.office.specs.declared.connections.handling.Handled.TheVariants.{Answered, GaveUp, Broken}
+use Rattle.office.specs.declared.connections.responding.Handled.TheVariants.{Answered, GaveUp, Broken}
 use Rattle.sigtext.specs.Counts.{Rose}
 use Rattle.office.specs.Connections.{HoldsUpTo, IsKnown, IsStream, Serves}
 use Rattle.office.specs.Crashes.{AddsStanding, never_changed}
@@ -28,10 +28,11 @@ use Rattle.office.proofs.Endurance.{still, survives_asked, survives_same, surviv
 use Rattle.office.specs.Handling.{Handles, answered, gave_up_at, broke, broke_giving_up_at}
 use Rattle.office.specs.Premise.{HoldsUp, IsLeft, WasKept}
 use Rattle.office.specs.Frames.{Quiet}
+use Rattle.office.specs.Responding.{IsClosed}
 use Rattle.office.specs.Sessions.{EndsAtOnce, HasBegunMessage, Session, MayGiveUpReading}
 use Rattle.office.proofs.Begun.{message_begun, none_begun}
 use Rattle.office.specs.Sessions as session
-use Rattle.office.specs.Stepping.{Goes, IsClosed, Steps, ToCome}
+use Rattle.office.specs.Stepping.{Goes, Steps, ToCome}
 
 -- ---- known bytes, part by part
 

@@ -1,5 +1,5 @@
 -- Connections that come, are served in turns, and go. Each has a slot while it is there.
-use Rattle.std.specs.Prelude.{◌≡◌, ◌+◌, ℕ, Bool, false, List, ◌++◌, IsPermutation, length, map, Option, Some, None}
+use Rattle.std.specs.Prelude.{◌≡◌, ℕ, Bool, false, List, ◌++◌, IsPermutation, length, map, Option, Some, None}
 use Rattle.std.specs.List.{AllByRecursion, count_by, sum_by}
 use Rattle.boxes.specs.State.{State}
 use Rattle.boxes.specs.declared.keep.Keeper.{Ghosts}

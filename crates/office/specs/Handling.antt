@@ -1,5 +1,5 @@
 -- What handling one message does to the clock, the writer, the state and the keeper.
-use Rattle.std.specs.Prelude.{◌≡◌, ◌⊎◌, ℕ, List, Option, None, Some, true, false}
+use Rattle.std.specs.Prelude.{ℕ, List, Option, None, Some, true, false}
 use Rattle.std.specs.Io.KnownBytes.{Appends}
 use Rattle.sigtext.specs.declared.refusal.Refusal.TheVariants as rule
 use Rattle.sigtext.specs.Request.{Request}
@@ -8,17 +8,13 @@ use Rattle.wire.specs.declared.session.SessionEnd.{SessionEnd}
 use Rattle.wire.specs.declared.session.SessionEnd.TheVariants.{Refused, WriteFault}
 use Rattle.boxes.specs.declared.keep.Keeper.{Ghosts}
 use Rattle.sigtext.specs.Bytes.{IsBeginning}
-use Rattle.office.specs.declared.connections.handling.Handled.{Handled}
-use Rattle.office.specs.declared.connections.handling.Handled.TheVariants.{Answered, GaveUp, Broken}
+use Rattle.office.specs.declared.connections.responding.Handled.{Handled}
+use Rattle.office.specs.declared.connections.responding.Handled.TheVariants.{Answered, GaveUp, Broken}
 use Rattle.office.specs.Answering.{AnswersRequest}
 use Rattle.office.specs.Crashes.{AddsAsked, IsAsked, LastsThrough}
 use Rattle.office.specs.Premise.{HoldsUp, IsLeft}
 use Rattle.sigtext.specs.Readable.{IsReadable}
 use Rattle.office.specs.Sessions.{closing}
-
--- refusal 40 was written, or writing broke off
-abbrev pub MayBeGivenUp : Handled → Type 0
-MayBeGivenUp h = (h ≡ GaveUp) ⊎ (h ≡ Broken)
 
 -- how a session ends by how a message ended, if it ends
 abbrev pub end_of : Handled → Option SessionEnd

@@ -20,9 +20,9 @@ pub mod Replays
 pub mod Replying
 pub mod Rules
 pub mod Seats
-pub mod Sent
 pub mod Sessions
 pub mod Stepping
+pub mod Responding
 pub mod Resuming
 pub mod Turning
 pub mod WithoutTryAgain

@@ -37,7 +37,7 @@ pub data TakesTurn {C K R W : Type 0} (gives : C → ℕ → C → Type 0) (rema
       → TakesTurn gives remaining contents old new clock clock' k keeper keeper' s after
   -- it read on in its next message, and goes on: nothing was told, written or answered
   read_on : old.end ≡ None → new.end ≡ None → new.served ≡ old.served → waits_of new ≡ waits_of old + 1
-      → Keeps (left_of remaining old) (left_of remaining new) → StandsBy clock clock' old.writer new.writer k keeper keeper' s → after ≡ s
+      → Keeps (left_of remaining old) (left_of remaining new) → new.writer ≡ old.writer → StandsBy clock clock' k keeper keeper' s → after ≡ s
       → TakesTurn gives remaining contents old new clock clock' k keeper keeper' s after
   -- It ended like a session of n messages, where n is the most that were still to come. It did not go on
   -- after a message. If it gave up, it was within a message that had begun, so bytes of it were read.

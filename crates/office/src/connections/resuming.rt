@@ -9,7 +9,8 @@ ghost use Rattle.office.specs.Foreseeing.{IsUpload};
 ghost use Rattle.office.specs.Premise.{IsGivenUp};
 
 use super::receiving::Received;
-use super::stepping::{close, end_of};
+use super::responding::Response;
+use super::stepping::Stepped;
 use crate::clocks::Clock;
 use crate::office::Office;
 use crate::requests::announced::{Announced, announce_head};
@@ -19,17 +20,8 @@ use boxes::Keeper;
 use links::is_readable;
 use sigtext::{Field, Refusal};
 use sigv4::Sha;
-use std::io::{Read, Write};
-use wire::{Counted, Feed, Kept, MOST_FIELDS, NO_FIELD, Opening, SessionEnd, Underway, reread};
-
-/// What a step came to that went on with a message.
-#[derive(Drop)]
-pub(crate) enum Resumed {
-    /// The message was answered, or the session ended like this.
-    Done(Option<SessionEnd>),
-    /// No more bytes may be read now.
-    Waits(Underway),
-}
+use std::io::Read;
+use wire::{Feed, Kept, MOST_FIELDS, NO_FIELD, Opening, Underway, reread};
 
 // The items of a slice of bytes are bytes. A fact about what was kept, for the proof.
 fn are_bytes(bytes: &[u8])
@@ -67,26 +59,25 @@ fn is_lost(foreseen: &Result<Prospect<'_>, Refusal>, is_kept: bool) -> bool
 }
 
 impl<K: Keeper> Office<K> {
-    ghost use Rattle.std.specs.Prelude.{◌≡◌, ◌≢◌, ◌⊎◌, ◌++◌, ℕ, Bool, List, [], length, IsFalse, IsSomeAnd, IsTrue, None, Option};
+    ghost use Rattle.std.specs.Prelude.{◌≡◌, ◌≢◌, ◌⊎◌, ◌++◌, ℕ, Bool, List, [], length, IsFalse, IsTrue, None, Option, ⊤};
     ghost use Rattle.std.specs.Io.KnownBytes.{Keeps, prepend_known};
     ghost use Rattle.std.specs.Option.{ForSome};
     ghost use Rattle.sigtext.specs.Bytes.{AreBytes};
-    ghost use Rattle.sigtext.specs.Counts.{Rose};
     ghost use Rattle.sigtext.specs.Readable.{IsReadable};
     ghost use Rattle.boxes.specs.Keeping.{KeepsStaged};
     ghost use Rattle.boxes.specs.State.{State};
     ghost use Rattle.wire.specs.Feeding.{Opens};
-    ghost use Rattle.wire.specs.Feeds.{SameReader, given_of, place_of, reader_of, whole_left};
+    ghost use Rattle.wire.specs.Feeds.{SameReader, TakesAllIn, given_of, place_of, reader_of, whole_left};
     ghost use Rattle.wire.specs.Framing.{request_of};
     ghost use Rattle.wire.specs.Underways.{IsBegun, IsKept, IsWholeHead, head_of};
     ghost use Rattle.wire.specs.declared.feed.Place.{Place};
-    ghost use Rattle.office.specs.Connections.{MayGiveUp};
     ghost use Rattle.office.specs.Foreseeing.{AreStaged};
     ghost use Rattle.office.specs.Frames.{Quiet};
     ghost use Rattle.office.specs.Premise.{EndsUnstaged, HoldsUnless, StaysUnstaged, WasKept};
-    ghost use Rattle.office.specs.Resuming.{EndsWhole, GoesOnFrom, HasTakenAll, MayHaveLeftOff, NeverLeaves, ResumesTo, TellsResumed, TellsWhole, WaitsWith};
+    ghost use Rattle.office.specs.Responding.{GivesUp};
+    ghost use Rattle.office.specs.Resuming.{EndsWhole};
     ghost use Rattle.office.specs.Sessions.{HasBegunMessage};
-    ghost use Rattle.office.specs.Stepping.{IsClosed};
+    ghost use Rattle.office.specs.Stepping.{GoesOn, HasGivenUp, IfWaits, NeverStandsBy, ReadsOnIn, StepsTo, TellsRead, WaitsIn};
 
     // Moves what was kept of a body into the keeper. Returns its hasher.
     fn put_back(&mut self, kept: Option<Kept>) -> Sha
@@ -120,26 +111,25 @@ impl<K: Keeper> Office<K> {
 
     // Answers a message whose body came, with this head. What it asks for is looked up anew, since the state
     // may have changed. If its body is needed now and was not kept, it is given up.
-    fn serve_whole<W: Write, C: Clock>(
+    fn serve_whole<C: Clock>(
         &mut self,
         head: &[u8],
         is_kept: bool,
         size: usize,
         body: &Body,
-        writer: &mut Counted<W>,
         clock: &mut C,
-    ) -> Option<SessionEnd>
+    ) -> Response
         requires { IsWholeHead head.now size }
         ensures ends { (s : State) (bytes : List ℕ) → WasKept K.Keeper self.old.keeper self.new.keeper s
             → length bytes ≡ size → (IsTrue is_kept → AreStaged K.Keeper self.old.keeper bytes body.now)
             → (has_length : Bool) × (o : Opens head.now has_length size)
-            × EndsWhole C.now_gives clock.old clock.new (W.contents writer.old.inner) (W.contents writer.new.inner)
+            × EndsWhole C.now_gives clock.old clock.new
             K.Keeper self.old.keeper self.new.keeper s (request_of o.head has_length bytes) result }
-        ensures faults { TellsWhole result writer.old writer.new }
+        ensures read { result ≢ Response.ReadFault }
         ensures unstaged { IsTrue is_kept ⊎ K.stages self.old.keeper []
             → EndsUnstaged K.Keeper self.old.keeper self.new.keeper }
         ensures rest { HoldsUnless K.Keeper self.old.keeper self.new.keeper
-            (IsSomeAnd result (MayGiveUp K.Keeper self.old.keeper self.new.keeper)) }
+            (GivesUp K.Keeper self.old.keeper self.new.keeper result) }
     {
         let mut fields = [NO_FIELD; MOST_FIELDS];
         let opening = reread(head, size, &mut fields);
@@ -148,34 +138,23 @@ impl<K: Keeper> Office<K> {
         if is_lost(&foreseen, is_kept) {
             drop(foreseen);
             self.let_go_kept(is_kept, false);
-            return Some(close(Refusal::TryAgain, writer));
+            return Response::Close(Refusal::TryAgain);
         }
         let upload = is_upload(&foreseen);
         self.let_go_kept(is_kept, upload);
         let to_head = asks_head(&message);
-        end_of(self.serve_message(foreseen, body, to_head, writer, clock))
+        Response::Answer(self.answer_now(foreseen, body, to_head, clock))
     }
 
     // Gives up a message with this head, which was found readable before. That is a mere fact, so it is asked
     // again.
-    fn give_up_kept<W: Write>(
-        &mut self,
-        head: &[u8],
-        size: usize,
-        writer: &mut Counted<W>,
-    ) -> SessionEnd
+    fn give_up_kept(&mut self, head: &[u8], size: usize)
         requires whole { IsWholeHead head.now size }
         requires readable { (has_length : Bool) (n : ℕ) (o : Opens head.now has_length n)
             → ∥ IsReadable (request_of o.head has_length []) ∥₁ }
         ensures begun { (given : List ℕ) → HasBegunMessage (head.now ++ given) }
-        ensures closed { IsClosed (W.contents writer.old.inner) (W.contents writer.new.inner)
-            Refusal.TryAgain result }
-        ensures fault { result ≡ SessionEnd.WriteFault → Rose writer.old.faults writer.new.faults }
-        ensures clean { (result ≢ SessionEnd.WriteFault) → writer.new.faults ≡ writer.old.faults }
-        ensures end { result ≢ SessionEnd.ReadFault }
         ensures unstaged { EndsUnstaged K.Keeper self.old.keeper self.new.keeper }
-        ensures quiet { Quiet K.Keeper self.old.keeper self.new.keeper
-            (MayGiveUp K.Keeper self.old.keeper self.new.keeper result) }
+        ensures quiet { Quiet K.Keeper self.old.keeper self.new.keeper ⊤ }
     {
         let mut fields = [NO_FIELD; MOST_FIELDS];
         let opening = reread(head, size, &mut fields);
@@ -183,35 +162,32 @@ impl<K: Keeper> Office<K> {
             unreachable!();
         }
         let _ = self.drop_staged(true);
-        close(Refusal::TryAgain, writer)
     }
 
-    // Goes on with a message whose body has not come whole: reads on, and answers it if the body is whole. Or
-    // tells how the session ended.
-    pub(crate) fn resume<R: Read, W: Write, C: Clock>(
+    // Goes on with a message whose body has not come whole: reads on, and decides what answers it if the body is
+    // whole. Or tells how the session ends.
+    pub(crate) fn resume<R: Read, C: Clock>(
         &mut self,
         feed: &mut Feed<'_, R>,
         underway: Underway,
-        writer: &mut Counted<W>,
         clock: &mut C,
-    ) -> Resumed
+    ) -> Stepped<Underway>
         requires { IsBegun (head_of underway) underway.size underway.kept (place_of feed.old) (given_of feed.old) }
         ensures same { SameReader feed.old feed.new }
-        ensures goes_on { GoesOnFrom result feed.new }
-        ensures stands { WaitsWith feed.new result }
+        ensures goes_on { GoesOn result feed.new }
+        ensures stands { IfWaits (λ u. WaitsIn feed.new (head_of u) u.size u.kept) result }
         ensures steps { (s : State) (p : Place) (known : Option (List ℕ))
             → WasKept K.Keeper self.old.keeper self.new.keeper s
             → Keeps known (prepend_known (head_of underway) (whole_left R.remaining feed.old))
-            → ResumesTo C.now_gives p known R.remaining feed.new
-            writer.old writer.new W.contents clock.old clock.new
-            K.Keeper self.old.keeper self.new.keeper s result }
-        ensures faults { TellsResumed result
-            (reader_of feed.old) (reader_of feed.new) writer.old writer.new }
+            → StepsTo C.now_gives p known R.remaining feed.new clock.old clock.new
+            K.Keeper self.old.keeper self.new.keeper s
+            (λ u. ReadsOnIn R.remaining known feed.new (head_of u) u.size u.kept) result }
+        ensures faults { TellsRead result (reader_of feed.old) (reader_of feed.new) }
         ensures unstaged { StaysUnstaged K.Keeper self.old.keeper self.new.keeper }
         ensures rest { HoldsUnless K.Keeper self.old.keeper self.new.keeper
-            (MayHaveLeftOff K.Keeper self.old.keeper self.new.keeper result) }
-        ensures free { NeverLeaves feed.old.backlog feed.new.backlog result }
-        ensures all { HasTakenAll R.remaining feed.old feed.new result }
+            (HasGivenUp K.Keeper self.old.keeper self.new.keeper result) }
+        ensures free { NeverStandsBy feed.old.backlog feed.new.backlog result }
+        ensures all { IfWaits (λ u. TakesAllIn R.remaining feed.old feed.new) result }
     {
         let Underway {
             text,
@@ -227,30 +203,30 @@ impl<K: Keeper> Office<K> {
                     length: size as u64,
                     digest,
                 };
-                let end = self.serve_whole(&text[..len], is_kept, size, &body, writer, clock);
+                let response = self.serve_whole(&text[..len], is_kept, size, &body, clock);
                 drop(text);
-                Resumed::Done(end)
+                Stepped::Done(response)
             }
             Received::Lacking => {
                 look_again(&text[..len], size);
                 drop(text);
                 self.let_go_kept(is_kept, false);
-                Resumed::Done(Some(close(Refusal::BodyIncomplete, writer)))
+                Stepped::Done(Response::Close(Refusal::BodyIncomplete))
             }
             Received::Broken => {
                 look_again(&text[..len], size);
                 drop(text);
                 self.let_go_kept(is_kept, false);
-                Resumed::Done(Some(SessionEnd::ReadFault))
+                Stepped::Done(Response::ReadFault)
             }
             Received::GaveUp => {
-                let end = self.give_up_kept(&text[..len], size, writer);
+                self.give_up_kept(&text[..len], size);
                 drop(text);
-                Resumed::Done(Some(end))
+                Stepped::Done(Response::Close(Refusal::TryAgain))
             }
             Received::Waits => {
                 let kept = self.keep(is_kept, sha);
-                Resumed::Waits(Underway {
+                Stepped::Waits(Underway {
                     text,
                     len,
                     size,

@@ -1,4 +1,5 @@
 //! One connection: its messages are read and answered in order.
+use super::responding::respond;
 use super::stepping::Stepped;
 use crate::clocks::Clock;
 use crate::office::Office;
@@ -41,9 +42,12 @@ impl<K: Keeper> Office<K> {
     {
         let mut block = [0; MOST_HEAD];
         'messages: for _ in 0..MOST_MESSAGES {
-            match self.step(feed, &mut block, writer, clock) {
-                Stepped::Done(None) => {}
-                Stepped::Done(Some(end)) => return end,
+            match self.step(feed, &mut block, clock) {
+                Stepped::Done(response) => {
+                    if let Some(end) = respond(&response, writer) {
+                        return end;
+                    }
+                }
                 Stepped::Waits(_) => unreachable!(),
             }
         }

@@ -1,11 +1,8 @@
-//! One step of a session: it reads and answers a message, or it ends the session.
-ghost use Rattle.std.specs.Prelude.{◌≡◌, ◌≢◌};
-ghost use Rattle.sigtext.specs.Counts.{Rose};
-ghost use Rattle.office.specs.Handling.{end_of};
-ghost use Rattle.office.specs.Stepping.{IsClosed};
+//! One step of a session: it reads a message and decides what answers it, or how the session ends.
+ghost use Rattle.std.specs.Prelude.{◌≡◌};
 
-use super::handling::{Handled, send_answer};
 use super::receiving::Received;
+use super::responding::Response;
 use crate::clocks::Clock;
 use crate::office::Office;
 use crate::requests::announced::announce_head;
@@ -14,10 +11,9 @@ use crate::requests::foreseeing::{Body, Prospect, is_given_up, is_upload};
 use boxes::Keeper;
 use sigtext::{Field, Refusal};
 use sigv4::Sha;
-use std::io::{Read, Write};
+use std::io::Read;
 use wire::{
-    Answer, Came, Counted, Feed, Kept, MOST_FIELDS, MOST_HEAD, NO_FIELD, Opening, SessionEnd,
-    WireFault, put_answer, read_opening,
+    Answer, Came, Feed, Kept, MOST_FIELDS, MOST_HEAD, NO_FIELD, Opening, WireFault, read_opening,
 };
 
 /// A message whose head was read, and whose body has not come whole.
@@ -33,115 +29,78 @@ pub(crate) struct Begun {
 
 /// What a step came to.
 #[derive(Drop)]
-pub(crate) enum Stepped {
-    /// A message was answered, or the session ended like this.
-    Done(Option<SessionEnd>),
-    /// No more bytes may be read now. A message may have begun.
-    Waits(Option<Begun>),
-}
-
-// Writes the answer of a refusal that closes the connection. Returns how the session ends.
-pub(crate) fn close<W: Write>(refusal: Refusal, writer: &mut Counted<W>) -> SessionEnd
-    ensures closed { IsClosed (W.contents writer.old.inner) (W.contents writer.new.inner) refusal result }
-    ensures fault { result ≡ SessionEnd.WriteFault → Rose writer.old.faults writer.new.faults }
-    ensures clean { (result ≢ SessionEnd.WriteFault) → writer.new.faults ≡ writer.old.faults }
-    ensures end { result ≢ SessionEnd.ReadFault }
-{
-    match put_answer(&Answer::refused(refusal, false), writer) {
-        Ok(()) => SessionEnd::Refused(refusal.number()),
-        Err(_) => SessionEnd::WriteFault,
-    }
-}
-
-// How the session ends after a message that ended like this, if it ends.
-pub(crate) fn end_of(handled: Handled) -> Option<SessionEnd>
-    ensures { result ≡ end_of handled }
-{
-    match handled {
-        Handled::Answered => None,
-        Handled::GaveUp => Some(SessionEnd::Refused(40)),
-        Handled::Broken => Some(SessionEnd::WriteFault),
-    }
+pub(crate) enum Stepped<T> {
+    /// The step is done.
+    Done(Response),
+    /// No more bytes may be read now. The step goes on with this.
+    Waits(T),
 }
 
 impl<K: Keeper> Office<K> {
     ghost use Rattle.std.specs.Prelude.{◌≡◌, ◌≢◌, ◌⊎◌, ◌≤◌, ℕ, Bool, List, [], length, Err, IsTrue, Option};
-    ghost use Rattle.sigtext.specs.Counts.{Rose};
     ghost use Rattle.sigtext.specs.Readable.{IsReadable};
     ghost use Rattle.sigtext.specs.Request.{Request};
     ghost use Rattle.boxes.specs.State.{State};
     ghost use Rattle.wire.specs.Feeding.{Opens};
-    ghost use Rattle.wire.specs.Feeds.{SameReader, given_of, left, place_of, reader_of};
+    ghost use Rattle.wire.specs.Feeds.{SameReader, TakesAllIn, given_of, left, place_of, reader_of};
     ghost use Rattle.wire.specs.Framing.{request_of};
     ghost use Rattle.wire.specs.Openings.{ArePartsOf};
     ghost use Rattle.wire.specs.Whole.{IsOpening, MayBegin};
     ghost use Rattle.wire.specs.declared.feed.Place.{Place};
     ghost use Rattle.wire.specs.declared.feed.Place.TheVariants as stands;
     ghost use Rattle.office.specs.Answering.{is_head};
-    ghost use Rattle.office.specs.Connections.{MayGiveUp};
     ghost use Rattle.office.specs.Foreseeing.{AreStaged, Foresees, IsUpload};
     ghost use Rattle.office.specs.Frames.{Quiet};
-    ghost use Rattle.office.specs.Handling.{Handles, MayBeGivenUp};
+    ghost use Rattle.office.specs.Offices.{IsTryAgain};
     ghost use Rattle.office.specs.Premise.{EndsUnstaged, HoldsUnless, StaysUnstaged, WasKept};
-    ghost use Rattle.office.specs.Stepping.{GoesOn, HasHeadOf, IsExpected, LeavesOff, MayHaveGivenUp, NeverStandsBy, StepsTo, TakesAllFirst, TellsStepped, WaitsBehind};
+    ghost use Rattle.office.specs.Stepping.{GoesOn, HandlesBy, HasGivenUp, HasHeadOf, IfWaits, IsExpected, LeavesOff, NeverStandsBy, ReadsOn, StepsTo, TellsRead, WaitsBehind};
 
-    // Handles a message whose body came: takes its moment and writes its answer.
-    pub(crate) fn serve_message<W: Write, C: Clock>(
+    // Answers a message whose body came, at its moment.
+    pub(crate) fn answer_now<C: Clock>(
         &mut self,
         foreseen: Result<Prospect<'_>, Refusal>,
         body: &Body,
         to_head: bool,
-        writer: &mut Counted<W>,
         clock: &mut C,
-    ) -> Handled
+    ) -> Answer
         ensures handled { (s : State) (r : Request)
             → WasKept K.Keeper self.old.keeper self.new.keeper s
             → Foresees s r foreseen.entry → (foreseen.entry ≢ Err Refusal.TryAgain) → to_head ≡ is_head r
             → (IsUpload foreseen.entry → AreStaged K.Keeper self.old.keeper r.body body.now)
-            → Handles C.now_gives clock.old clock.new
-            (W.contents writer.old.inner) (W.contents writer.new.inner)
+            → HandlesBy C.now_gives clock.old clock.new
             K.Keeper self.old.keeper self.new.keeper s r result }
-        ensures fault { result ≡ Handled.Broken → Rose writer.old.faults writer.new.faults }
-        ensures clean { (result ≢ Handled.Broken) → writer.new.faults ≡ writer.old.faults }
         ensures unstaged { IsUpload foreseen.entry ⊎ K.stages self.old.keeper []
             → EndsUnstaged K.Keeper self.old.keeper self.new.keeper }
-        ensures rest { HoldsUnless K.Keeper self.old.keeper self.new.keeper (MayBeGivenUp result) }
+        ensures rest { HoldsUnless K.Keeper self.old.keeper self.new.keeper (IsTryAgain result) }
     {
         let now = clock.now();
-        let answer = self.answer_whole(foreseen, body, to_head, now);
-        send_answer(&answer, writer)
+        self.answer_whole(foreseen, body, to_head, now)
     }
 
-    // Answers a message whose body ended early: with refusal 6 once nothing of it is staged, or with refusal
-    // 40.
-    fn close_lacking<W: Write>(&mut self, is_upload: bool, writer: &mut Counted<W>) -> SessionEnd
-        ensures closed { LeavesOff (W.contents writer.old.inner) (W.contents writer.new.inner)
-            K.Keeper self.old.keeper self.new.keeper is_upload result }
-        ensures fault { result ≡ SessionEnd.WriteFault → Rose writer.old.faults writer.new.faults }
-        ensures clean { (result ≢ SessionEnd.WriteFault) → writer.new.faults ≡ writer.old.faults }
-        ensures end { result ≢ SessionEnd.ReadFault }
+    // The refusal of a message whose body ended early: refusal 6 once nothing of it is staged, or refusal 40.
+    fn refuse_lacking(&mut self, is_upload: bool) -> Refusal
+        ensures left_off { LeavesOff K.Keeper self.old.keeper self.new.keeper is_upload result }
         ensures ends { IsTrue is_upload → EndsUnstaged K.Keeper self.old.keeper self.new.keeper }
         ensures stays { StaysUnstaged K.Keeper self.old.keeper self.new.keeper }
-        ensures quiet { Quiet K.Keeper self.old.keeper self.new.keeper (MayGiveUp K.Keeper self.old.keeper self.new.keeper result) }
+        ensures quiet { Quiet K.Keeper self.old.keeper self.new.keeper (result ≡ Refusal.TryAgain) }
     {
         match self.drop_staged(is_upload) {
-            Ok(()) => close(Refusal::BodyIncomplete, writer),
-            Err(_) => close(Refusal::TryAgain, writer),
+            Ok(()) => Refusal::BodyIncomplete,
+            Err(_) => Refusal::TryAgain,
         }
     }
 
     // Reads the body of a message and answers the message, using what was foreseen of it. Or tells how the
-    // session ended. The head has `len` bytes.
-    fn serve_body<R: Read, W: Write, C: Clock>(
+    // session ends. The head has `len` bytes.
+    fn serve_body<R: Read, C: Clock>(
         &mut self,
         feed: &mut Feed<'_, R>,
         foreseen: Result<Prospect<'_>, Refusal>,
         to_head: bool,
         len: usize,
         size: usize,
-        writer: &mut Counted<W>,
         clock: &mut C,
-    ) -> Stepped
+    ) -> Stepped<Option<Begun>>
         requires open { place_of feed.old ≡ stands.Body size }
         requires none { given_of feed.old ≡ [] }
         ensures same { SameReader feed.old feed.new }
@@ -150,27 +109,25 @@ impl<K: Keeper> Office<K> {
             → WasKept K.Keeper self.old.keeper self.new.keeper s
             → IsExpected s size known (left R.remaining feed.old) foreseen.entry to_head head
             → len ≡ length head
-            → StepsTo C.now_gives p known R.remaining feed.new
-            writer.old writer.new W.contents clock.old clock.new
-            K.Keeper self.old.keeper self.new.keeper s head result }
-        ensures faults { TellsStepped result
-            (reader_of feed.old) (reader_of feed.new) writer.old writer.new }
+            → StepsTo C.now_gives p known R.remaining feed.new clock.old clock.new
+            K.Keeper self.old.keeper self.new.keeper s (ReadsOn R.remaining known feed.new head) result }
+        ensures faults { TellsRead result (reader_of feed.old) (reader_of feed.new) }
         ensures unstaged { StaysUnstaged K.Keeper self.old.keeper self.new.keeper }
         ensures rest { HoldsUnless K.Keeper self.old.keeper self.new.keeper
-            (MayHaveGivenUp K.Keeper self.old.keeper self.new.keeper result) }
+            (HasGivenUp K.Keeper self.old.keeper self.new.keeper result) }
         ensures free { NeverStandsBy feed.old.backlog feed.new.backlog result }
-        ensures all { TakesAllFirst R.remaining feed.old feed.new result }
-        ensures long { HasHeadOf len result }
+        ensures all { IfWaits (λ begun. TakesAllIn R.remaining feed.old feed.new) result }
+        ensures long { IfWaits (HasHeadOf len) result }
         ensures stands { (head : List ℕ) (has_length : Bool) (o : Opens head has_length size)
             → (IsUpload foreseen.entry → IsReadable (request_of o.head has_length []))
-            → len ≡ length head → WaitsBehind feed.new head result }
+            → len ≡ length head → IfWaits (WaitsBehind feed.new head) result }
     {
         let upload = is_upload(&foreseen);
         let mut sha = Sha::new();
         if self.begin_staging(upload).is_err() {
             drop(foreseen);
             let _ = self.drop_staged(upload);
-            return Stepped::Done(Some(close(Refusal::TryAgain, writer)));
+            return Stepped::Done(Response::Close(Refusal::TryAgain));
         }
         match self.receive(feed, size, upload, &mut sha) {
             Received::Whole(digest) => {
@@ -178,22 +135,22 @@ impl<K: Keeper> Office<K> {
                     length: size as u64,
                     digest,
                 };
-                let handled = self.serve_message(foreseen, &body, to_head, writer, clock);
-                Stepped::Done(end_of(handled))
+                let answer = self.answer_now(foreseen, &body, to_head, clock);
+                Stepped::Done(Response::Answer(answer))
             }
             Received::Lacking => {
                 drop(foreseen);
-                Stepped::Done(Some(self.close_lacking(upload, writer)))
+                Stepped::Done(Response::Close(self.refuse_lacking(upload)))
             }
             Received::Broken => {
                 drop(foreseen);
                 let _ = self.drop_staged(upload);
-                Stepped::Done(Some(SessionEnd::ReadFault))
+                Stepped::Done(Response::ReadFault)
             }
             Received::GaveUp => {
                 drop(foreseen);
                 let _ = self.drop_staged(upload);
-                Stepped::Done(Some(close(Refusal::TryAgain, writer)))
+                Stepped::Done(Response::Close(Refusal::TryAgain))
             }
             Received::Waits => {
                 drop(foreseen);
@@ -204,15 +161,14 @@ impl<K: Keeper> Office<K> {
     }
 
     // Serves the message whose head was read. The head goes to the front of the block.
-    fn serve_head<R: Read, W: Write, C: Clock>(
+    fn serve_head<R: Read, C: Clock>(
         &mut self,
         feed: &mut Feed<'_, R>,
         opening: &Opening<'_>,
         fields: &[Field<'_>; MOST_FIELDS],
         block: &mut [u8; MOST_HEAD],
-        writer: &mut Counted<W>,
         clock: &mut C,
-    ) -> Stepped
+    ) -> Stepped<Option<Begun>>
         requires open { place_of feed.old ≡ stands.Body opening.now.length }
         requires none { given_of feed.old ≡ [] }
         requires short { length opening.now.text.now ≤ MOST_HEAD }
@@ -223,68 +179,62 @@ impl<K: Keeper> Office<K> {
             → WasKept K.Keeper self.old.keeper self.new.keeper s
             → IsOpening opening.now.text.now opening.now.has_length opening.now.length
             known (left R.remaining feed.old)
-            → StepsTo C.now_gives p known R.remaining feed.new
-            writer.old writer.new W.contents clock.old clock.new
-            K.Keeper self.old.keeper self.new.keeper s block.new result }
-        ensures faults { TellsStepped result
-            (reader_of feed.old) (reader_of feed.new) writer.old writer.new }
+            → StepsTo C.now_gives p known R.remaining feed.new clock.old clock.new
+            K.Keeper self.old.keeper self.new.keeper s (ReadsOn R.remaining known feed.new block.new) result }
+        ensures faults { TellsRead result (reader_of feed.old) (reader_of feed.new) }
         ensures unstaged { StaysUnstaged K.Keeper self.old.keeper self.new.keeper }
         ensures rest { HoldsUnless K.Keeper self.old.keeper self.new.keeper
-            (MayHaveGivenUp K.Keeper self.old.keeper self.new.keeper result) }
+            (HasGivenUp K.Keeper self.old.keeper self.new.keeper result) }
         ensures free { NeverStandsBy feed.old.backlog feed.new.backlog result }
-        ensures all { TakesAllFirst R.remaining feed.old feed.new result }
+        ensures all { IfWaits (λ begun. TakesAllIn R.remaining feed.old feed.new) result }
         ensures stands { Opens opening.now.text.now opening.now.has_length opening.now.length
-            → WaitsBehind feed.new block.new result }
+            → IfWaits (WaitsBehind feed.new block.new) result }
     {
         let message = announce_head(opening, fields);
         let foreseen = self.foresee(&message);
         if is_given_up(&foreseen) {
             drop(foreseen);
-            return Stepped::Done(Some(close(Refusal::TryAgain, writer)));
+            return Stepped::Done(Response::Close(Refusal::TryAgain));
         }
         let to_head = asks_head(&message);
         let len = opening.text.len();
         block[..len].copy_from_slice(opening.text);
-        self.serve_body(feed, foreseen, to_head, len, opening.length, writer, clock)
+        self.serve_body(feed, foreseen, to_head, len, opening.length, clock)
     }
 
-    // Reads the next message of a feed and answers it. Or tells how the session ended. The head goes to the
-    // front of the block.
-    pub(crate) fn step<R: Read, W: Write, C: Clock>(
+    // Reads the next message of a feed and decides what answers it. Or tells how the session ends. The head goes
+    // to the front of the block.
+    pub(crate) fn step<R: Read, C: Clock>(
         &mut self,
         feed: &mut Feed<'_, R>,
         block: &mut [u8; MOST_HEAD],
-        writer: &mut Counted<W>,
         clock: &mut C,
-    ) -> Stepped
+    ) -> Stepped<Option<Begun>>
         requires { MayBegin (place_of feed.old) }
         ensures same { SameReader feed.old feed.new }
         ensures goes_on { GoesOn result feed.new }
         ensures steps { (s : State) → WasKept K.Keeper self.old.keeper self.new.keeper s
-            → StepsTo C.now_gives (place_of feed.old) (left R.remaining feed.old) R.remaining feed.new
-            writer.old writer.new W.contents clock.old clock.new
-            K.Keeper self.old.keeper self.new.keeper s block.new result }
-        ensures faults { TellsStepped result
-            (reader_of feed.old) (reader_of feed.new) writer.old writer.new }
+            → StepsTo C.now_gives (place_of feed.old) (left R.remaining feed.old) R.remaining feed.new clock.old clock.new
+            K.Keeper self.old.keeper self.new.keeper s
+            (ReadsOn R.remaining (left R.remaining feed.old) feed.new block.new) result }
+        ensures faults { TellsRead result (reader_of feed.old) (reader_of feed.new) }
         ensures unstaged { StaysUnstaged K.Keeper self.old.keeper self.new.keeper }
         ensures rest { HoldsUnless K.Keeper self.old.keeper self.new.keeper
-            (MayHaveGivenUp K.Keeper self.old.keeper self.new.keeper result) }
+            (HasGivenUp K.Keeper self.old.keeper self.new.keeper result) }
         ensures free { NeverStandsBy feed.old.backlog feed.new.backlog result }
-        ensures all { TakesAllFirst R.remaining feed.old feed.new result }
-        ensures stands { WaitsBehind feed.new block.new result }
+        ensures all { IfWaits (λ begun. TakesAllIn R.remaining feed.old feed.new) result }
+        ensures stands { IfWaits (WaitsBehind feed.new block.new) result }
     {
         let mut text = [0; MOST_HEAD];
         let mut fields = [NO_FIELD; MOST_FIELDS];
         match read_opening(feed, &mut text, &mut fields) {
-            Ok(Came::Head(opening)) => {
-                self.serve_head(feed, &opening, &fields, block, writer, clock)
-            }
-            Ok(Came::Refused(refusal)) => Stepped::Done(Some(close(refusal, writer))),
-            Ok(Came::End) => Stepped::Done(Some(SessionEnd::Ended)),
-            Ok(Came::Truncated) => Stepped::Done(Some(SessionEnd::Truncated)),
+            Ok(Came::Head(opening)) => self.serve_head(feed, &opening, &fields, block, clock),
+            Ok(Came::Refused(refusal)) => Stepped::Done(Response::Close(refusal)),
+            Ok(Came::End) => Stepped::Done(Response::Ended),
+            Ok(Came::Truncated) => Stepped::Done(Response::Truncated),
             Err(WireFault::Waits) => Stepped::Waits(None),
-            Err(WireFault::Read) => Stepped::Done(Some(SessionEnd::ReadFault)),
-            Err(WireFault::Memory) => Stepped::Done(Some(close(Refusal::TryAgain, writer))),
+            Err(WireFault::Read) => Stepped::Done(Response::ReadFault),
+            Err(WireFault::Memory) => Stepped::Done(Response::Close(Refusal::TryAgain)),
             Err(WireFault::Write) => unreachable!(),
         }
     }

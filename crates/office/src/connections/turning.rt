@@ -1,8 +1,5 @@
 //! Connections that are served in turns. A turn answers one message, or reads on in it.
-ghost use Rattle.std.specs.Prelude.{◌≡◌};
-ghost use Rattle.office.specs.Turning.{turn_of};
-
-use super::resuming::Resumed;
+use super::responding::{Response, respond};
 use super::stepping::{Begun, Stepped};
 use crate::clocks::Clock;
 use crate::office::Office;
@@ -15,17 +12,15 @@ use wire::{Counted, Due, Feed, Seat, SessionEnd, Spare, Standing, Underway};
 const MOST_MESSAGES: u64 = 1000;
 
 /// What a turn came to.
-#[derive(Clone, Copy)]
+#[derive(Drop)]
 pub(crate) enum Turn {
-    /// A message was answered, and the connection goes on.
-    Answered,
-    /// The connection ended.
-    Ended(SessionEnd),
-    /// No message was answered, and the connection goes on.
+    /// A message was heard, or the connection ends.
+    Done(Response),
+    /// No message was heard, and the connection goes on.
     ReadOn,
 }
 
-/// What a turn returns besides the connection's streams.
+/// What a turn returns besides the connection's reader.
 #[derive(Drop)]
 pub(crate) struct Aside {
     standing: Standing,
@@ -34,53 +29,31 @@ pub(crate) struct Aside {
     turn: Turn,
 }
 
-// The turn whose step is done like this.
-fn turn_of(end: Option<SessionEnd>) -> Turn
-    ensures { result ≡ turn_of end }
-{
-    match end {
-        None => Turn::Answered,
-        Some(end) => Turn::Ended(end),
-    }
-}
-
 impl<K: Keeper> Office<K> {
     ghost use Rattle.std.specs.Prelude.{◌≡◌, ◌≢◌, [], IsSomeAnd, None, Option, Some};
     ghost use Rattle.std.specs.Option.{ForSome};
     ghost use Rattle.boxes.specs.State.{State};
     ghost use Rattle.wire.specs.Feeds.{given_before, stood_at};
-    ghost use Rattle.wire.specs.Seats.{left_behind};
     ghost use Rattle.wire.specs.Underways.{IsUnderway};
     ghost use Rattle.wire.specs.Waiting.{TakesAll};
     ghost use Rattle.wire.specs.Whole.{MayBegin};
     ghost use Rattle.office.specs.Connections.{MayGiveUp};
     ghost use Rattle.office.specs.Premise.{HoldsUnless, IsLeft, StaysUnstaged, WasKept};
     ghost use Rattle.office.specs.Seats.{LacksRest, TakesTurn, TellsTurn};
-    ghost use Rattle.office.specs.Turning.{MayEndGivingUp, StandsAside, TellsAside, TurnsTo};
+    ghost use Rattle.office.specs.Turning.{TurnsAside};
 
     // Begins with the next message of a connection.
-    fn begin<R: Read, W: Write, C: Clock>(
+    fn begin<R: Read, C: Clock>(
         &mut self,
         standing: Standing,
         due: Due,
         reader: &mut Counted<R>,
-        writer: &mut Counted<W>,
         clock: &mut C,
     ) -> Aside
         requires begins { MayBegin (stood_at standing) }
         requires none { given_before standing ≡ [] }
-        ensures stands { StandsAside result.turn result }
-        ensures turns { (s : State) → WasKept K.Keeper self.old.keeper self.new.keeper s
-            → TurnsTo C.now_gives (left_behind None standing (R.remaining reader.old.inner)) R.remaining reader.new
-            writer.old writer.new W.contents clock.old clock.new
-            K.Keeper self.old.keeper self.new.keeper s result result.turn }
-        ensures faults { TellsAside result.turn reader.old reader.new writer.old writer.new }
-        ensures unstaged { StaysUnstaged K.Keeper self.old.keeper self.new.keeper }
-        ensures rest { HoldsUnless K.Keeper self.old.keeper self.new.keeper
-            (MayEndGivingUp K.Keeper self.old.keeper self.new.keeper result.turn) }
-        ensures free { due.most ≡ None → result.turn ≢ Turn.ReadOn }
-        ensures all { result.turn ≡ Turn.ReadOn
-            → TakesAll due.most (R.remaining reader.old.inner) (R.remaining reader.new.inner) }
+        ensures { TurnsAside C.now_gives R.remaining None standing due.most reader.old reader.new
+            clock.old clock.new K.Keeper self.old.keeper self.new.keeper result }
     {
         let Due {
             buffer,
@@ -90,18 +63,18 @@ impl<K: Keeper> Office<K> {
         } = due;
         let mut text = text;
         let mut feed = Feed::resume(standing, buffer, most, reader);
-        let stepped = self.step(&mut feed, &mut text, writer, clock);
+        let stepped = self.step(&mut feed, &mut text, clock);
         let (standing, buffer) = feed.set_aside();
         feed.into_reader();
         match stepped {
-            Stepped::Done(end) => Aside {
+            Stepped::Done(response) => Aside {
                 standing,
                 underway: None,
                 spare: Spare {
                     buffer,
                     text: Some(text),
                 },
-                turn: turn_of(end),
+                turn: Turn::Done(response),
             },
             Stepped::Waits(None) => Aside {
                 standing,
@@ -127,28 +100,17 @@ impl<K: Keeper> Office<K> {
     }
 
     // Goes on with the message of a connection whose body has not come whole.
-    fn go_on<R: Read, W: Write, C: Clock>(
+    fn go_on<R: Read, C: Clock>(
         &mut self,
         standing: Standing,
         underway: Underway,
         due: Due,
         reader: &mut Counted<R>,
-        writer: &mut Counted<W>,
         clock: &mut C,
     ) -> Aside
         requires { IsUnderway underway standing }
-        ensures stands { StandsAside result.turn result }
-        ensures turns { (s : State) → WasKept K.Keeper self.old.keeper self.new.keeper s
-            → TurnsTo C.now_gives (left_behind (Some underway) standing (R.remaining reader.old.inner)) R.remaining reader.new
-            writer.old writer.new W.contents clock.old clock.new
-            K.Keeper self.old.keeper self.new.keeper s result result.turn }
-        ensures faults { TellsAside result.turn reader.old reader.new writer.old writer.new }
-        ensures unstaged { StaysUnstaged K.Keeper self.old.keeper self.new.keeper }
-        ensures rest { HoldsUnless K.Keeper self.old.keeper self.new.keeper
-            (MayEndGivingUp K.Keeper self.old.keeper self.new.keeper result.turn) }
-        ensures free { due.most ≡ None → result.turn ≢ Turn.ReadOn }
-        ensures all { result.turn ≡ Turn.ReadOn
-            → TakesAll due.most (R.remaining reader.old.inner) (R.remaining reader.new.inner) }
+        ensures { TurnsAside C.now_gives R.remaining (Some underway) standing due.most reader.old reader.new
+            clock.old clock.new K.Keeper self.old.keeper self.new.keeper result }
     {
         let Due {
             buffer,
@@ -157,7 +119,7 @@ impl<K: Keeper> Office<K> {
             ..
         } = due;
         let mut feed = Feed::resume(standing, buffer, most, reader);
-        let resumed = self.resume(&mut feed, underway, writer, clock);
+        let resumed = self.resume(&mut feed, underway, clock);
         let (standing, buffer) = feed.set_aside();
         feed.into_reader();
         let spare = Spare {
@@ -165,13 +127,13 @@ impl<K: Keeper> Office<K> {
             text: Some(text),
         };
         match resumed {
-            Resumed::Done(end) => Aside {
+            Stepped::Done(response) => Aside {
                 standing,
                 underway: None,
                 spare,
-                turn: turn_of(end),
+                turn: Turn::Done(response),
             },
-            Resumed::Waits(underway) => Aside {
+            Stepped::Waits(underway) => Aside {
                 standing,
                 underway: Some(underway),
                 spare,
@@ -180,35 +142,24 @@ impl<K: Keeper> Office<K> {
         }
     }
 
-    // A turn of a connection whose feed was set aside.
-    fn turn_aside<R: Read, W: Write, C: Clock>(
+    // A turn of a connection whose feed was set aside. Nothing is written.
+    fn turn_aside<R: Read, C: Clock>(
         &mut self,
         standing: Standing,
         underway: Option<Underway>,
         due: Due,
         reader: &mut Counted<R>,
-        writer: &mut Counted<W>,
         clock: &mut C,
     ) -> Aside
         requires begins { underway ≡ None → MayBegin (stood_at standing) }
         requires none { underway ≡ None → given_before standing ≡ [] }
         requires goes_on { ForSome underway (λ u. IsUnderway u standing) }
-        ensures stands { StandsAside result.turn result }
-        ensures turns { (s : State) → WasKept K.Keeper self.old.keeper self.new.keeper s
-            → TurnsTo C.now_gives (left_behind underway standing (R.remaining reader.old.inner)) R.remaining reader.new
-            writer.old writer.new W.contents clock.old clock.new
-            K.Keeper self.old.keeper self.new.keeper s result result.turn }
-        ensures faults { TellsAside result.turn reader.old reader.new writer.old writer.new }
-        ensures unstaged { StaysUnstaged K.Keeper self.old.keeper self.new.keeper }
-        ensures rest { HoldsUnless K.Keeper self.old.keeper self.new.keeper
-            (MayEndGivingUp K.Keeper self.old.keeper self.new.keeper result.turn) }
-        ensures free { due.most ≡ None → result.turn ≢ Turn.ReadOn }
-        ensures all { result.turn ≡ Turn.ReadOn
-            → TakesAll due.most (R.remaining reader.old.inner) (R.remaining reader.new.inner) }
+        ensures { TurnsAside C.now_gives R.remaining underway standing due.most reader.old reader.new
+            clock.old clock.new K.Keeper self.old.keeper self.new.keeper result }
     {
         match underway {
-            None => self.begin(standing, due, reader, writer, clock),
-            Some(underway) => self.go_on(standing, underway, due, reader, writer, clock),
+            None => self.begin(standing, due, reader, clock),
+            Some(underway) => self.go_on(standing, underway, due, reader, clock),
         }
     }
 
@@ -250,19 +201,20 @@ impl<K: Keeper> Office<K> {
         }
         let standing = mem::replace(&mut seat.standing, Standing::new(self.alloc));
         let underway = seat.underway.take();
-        let (reader, writer) = (&mut seat.reader, &mut seat.writer);
-        let aside = self.turn_aside(standing, underway, due, reader, writer, clock);
+        let aside = self.turn_aside(standing, underway, due, &mut seat.reader, clock);
         seat.standing = aside.standing;
         seat.underway = aside.underway;
         let mut spare = aside.spare;
-        match aside.turn {
-            Turn::Answered => seat.served += 1,
-            Turn::ReadOn => seat.waited = seat.waited.and(&seat.served, &seat.served),
-            Turn::Ended(end) => {
-                seat.end = Some(end);
-                spare.take_back(seat.standing.let_go());
-            }
+        let Turn::Done(response) = aside.turn else {
+            seat.waited = seat.waited.and(&seat.served, &seat.served);
+            return spare;
+        };
+        seat.end = respond(&response, &mut seat.writer);
+        if seat.end.is_none() {
+            seat.served += 1;
+            return spare;
         }
+        spare.take_back(seat.standing.let_go());
         spare
     }
 }

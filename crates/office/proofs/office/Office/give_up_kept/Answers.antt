@@ -3,7 +3,6 @@ use denote.Struct.Props.{props}
 use Rattle.std.proofs.Math.Logic.{∥∥₁_elim}
 use Rattle.sigtext.specs.Readable.{IsReadable}
 use Rattle.wire.specs.Framing.{request_of}
-use Rattle.office.proofs.Handlings.{closed_again}
 use Rattle.office.proofs.KeeperCalls.{quiet_less}
 use Rattle.office.proofs.Resumptions.{same_parts}
 use Rattle.office.proofs.office.Office.give_up_kept.Goals as goal
@@ -35,4 +34,4 @@ pub returns-clause-unstaged : goal.returns-clause-unstaged
 returns-clause-unstaged g c = c.drop_staged.ensures.ends refl
 
 pub returns-clause-quiet : goal.returns-clause-quiet
-returns-clause-quiet g c = quiet_less (λ _. closed_again g.K.Keeper _ _ _ _ c.close.result c.close.ensures.closed) c.drop_staged.ensures.quiet
+returns-clause-quiet g c = quiet_less (λ _. tt) c.drop_staged.ensures.quiet

@@ -1,30 +1,29 @@
 use Rattle.std.proofs.Common.{◌≡◌, ◌∙◌, ℕ, List, [], inl, inr, ap, refl, subst, sym, take}
-use Rattle.std.specs.Prelude.{Bool}
+use Rattle.std.specs.Prelude.{Bool, ⊤}
 use Rattle.std.specs.Io.KnownBytes.{Keeps, prepend_known}
 use Rattle.sigtext.specs.Readable.{IsReadable}
 use Rattle.wire.specs.Feeding.{Opens}
 use Rattle.wire.specs.Feeds.{whole_left}
 use Rattle.wire.specs.Framing.{request_of}
 use Rattle.wire.specs.Underways.{IsWholeHead, head_of}
-use Rattle.office.specs.Connections.{MayGiveUp}
 use Rattle.office.specs.Frames.{Quiet}
 use Rattle.office.specs.declared.connections.receiving.Received.TheVariants as received
 use Rattle.office.specs.declared.requests.foreseeing.Body.{Body}
 use Rattle.office.proofs.BodySteps.{has_come}
 use Rattle.office.proofs.BodyWaits.{either_way, some_is, stands_by, still_awaits, waits_not_gave_up}
 use Rattle.office.proofs.Endings.{broken_not_gave_up, lacking_not_gave_up, whole_not_gave_up}
-use Rattle.office.proofs.Handlings.{closed_again, closed_faults}
 use Rattle.office.proofs.Holding.{holds_less, holds_then}
 use Rattle.office.proofs.KeeperCalls.{quiet_both, quiet_less, quiet_then}
-use Rattle.office.proofs.Resumptions.{kept_readable, part_of, resumed_broken, resumed_given_up, resumed_lacking, resumed_whole, small_body, still_begun, still_kept, unkept, whole_faults, whole_goes_on}
+use Rattle.office.proofs.Resumptions.{kept_readable, part_of, resumed_broken, resumed_given_up, resumed_lacking, resumed_whole, small_body, still_begun, still_kept, unkept}
 use Rattle.office.proofs.SessionSteps.{before_quiet}
-use Rattle.office.proofs.Unstaged.{ends_later, some_may_later}
+use Rattle.office.proofs.Told.{gives_up_later, reading_same, so_if_answer}
+use Rattle.office.proofs.Unstaged.{ends_later}
 use Rattle.office.proofs.office.Office.resume.Goals as goal
 
 -- ---- what the calls ask for
 
-pub serve_whole-end-requires : goal.serve_whole-end-requires
-serve_whole-end-requires g c = subst (λ (t : List ℕ). IsWholeHead t c.args.underway.size) (sym (ap (take c.args.underway.len) c.deref.ensures)) c.requires.whole
+pub serve_whole-response-requires : goal.serve_whole-response-requires
+serve_whole-response-requires g c = subst (λ (t : List ℕ). IsWholeHead t c.args.underway.size) (sym (ap (take c.args.underway.len) c.deref.ensures)) c.requires.whole
 
 pub look_again-requires : goal.look_again-requires
 look_again-requires g c = subst (λ (t : List ℕ). IsWholeHead t c.args.underway.size) (sym (ap (take c.args.underway.len) c.deref-in-Lacking.ensures)) c.requires.whole
@@ -32,11 +31,11 @@ look_again-requires g c = subst (λ (t : List ℕ). IsWholeHead t c.args.underwa
 pub look_again-requires-in-Broken : goal.look_again-requires-in-Broken
 look_again-requires-in-Broken g c = subst (λ (t : List ℕ). IsWholeHead t c.args.underway.size) (sym (ap (take c.args.underway.len) c.deref-in-Broken.ensures)) c.requires.whole
 
-pub give_up_kept-end-requires-clause-whole : goal.give_up_kept-end-requires-clause-whole
-give_up_kept-end-requires-clause-whole g c = subst (λ (t : List ℕ). IsWholeHead t c.args.underway.size) (sym (ap (take c.args.underway.len) c.deref-in-GaveUp.ensures)) c.requires.whole
+pub give_up_kept-requires-clause-whole : goal.give_up_kept-requires-clause-whole
+give_up_kept-requires-clause-whole g c = subst (λ (t : List ℕ). IsWholeHead t c.args.underway.size) (sym (ap (take c.args.underway.len) c.deref-in-GaveUp.ensures)) c.requires.whole
 
-pub give_up_kept-end-requires-clause-readable : goal.give_up_kept-end-requires-clause-readable
-give_up_kept-end-requires-clause-readable g c =
+pub give_up_kept-requires-clause-readable : goal.give_up_kept-requires-clause-readable
+give_up_kept-requires-clause-readable g c =
     subst (λ (t : List ℕ). (has_length : Bool) (n : ℕ) (o : Opens t has_length n) → ∥ IsReadable (request_of o.head has_length []) ∥₁) (sym (ap (take c.args.underway.len) c.deref-in-GaveUp.ensures))
     (kept_readable (head_of c.args.underway) _ c.args.underway.kept (sym c.is_some-is_kept.ensures ∙ (c.in-GaveUp.ensures.counts refl).0) c.requires.holds)
 
@@ -54,12 +53,11 @@ returns-in-Whole-clause-steps g c s p known was kept =
     let told : Body = record { length = size; digest = c.in-Whole.digest } in
     let come = has_come g.R.Read.remaining size c.args.feed.now took.feed g.K.Keeper took.self.keeper is.result told (small_body (head_of c.args.underway) size c.requires.whole) r.passes (λ t. r.stages t (part t)) refl in
     let quiet : Quiet g.K.Keeper c.args.self.now.keeper took.self.keeper ⊥ = quiet_then put.quiet (quiet_less (whole_not_gave_up _) r.quiet) in
-    let end = c.serve_whole-end.ensures.ends s come.body (record { means = quiet.same s was.means; is_honest = was.is_honest; sound = was.sound }) come.taken.0 come.staged in
-    resumed_whole g.R.Read.remaining size c.args.feed.now took.feed g.C.Clock.now_gives p known (g.W.Write.contents c.args.writer.now.inner) (g.W.Write.contents c.serve_whole-end.new.writer.inner)
-    c.args.clock.now c.serve_whole-end.new.clock g.K.Keeper c.args.self.now.keeper took.self.keeper c.serve_whole-end.new.self.keeper s text
+    let ends = c.serve_whole-response.ensures.ends s come.body (record { means = quiet.same s was.means; is_honest = was.is_honest; sound = was.sound }) come.taken.0 come.staged in
+    resumed_whole g.R.Read.remaining size c.args.feed.now took.feed g.C.Clock.now_gives p known c.args.clock.now c.serve_whole-response.new.clock g.K.Keeper c.args.self.now.keeper took.self.keeper c.serve_whole-response.new.self.keeper s text
     (subst (λ (t : List ℕ). Keeps known (prepend_known t (whole_left g.R.Read.remaining c.args.feed.now))) (sym (ap (take c.args.underway.len) c.deref.ensures)) kept)
-    end.0 end.1 come.body c.serve_whole-end.result come.taken
-    (before_quiet g.K.Keeper c.args.self.now.keeper took.self.keeper s ⊥ quiet (λ none. none) was.means (c.serve_whole-end.ensures.rest.honest was.is_honest)) end.2
+    ends.0 ends.1 come.body c.serve_whole-response.result come.taken
+    (before_quiet g.K.Keeper c.args.self.now.keeper took.self.keeper s ⊥ quiet (λ none. none) was.means (c.serve_whole-response.ensures.rest.honest was.is_honest)) ends.2
 
 pub returns-in-Whole-clause-goes_on : goal.returns-in-Whole-clause-goes_on
 returns-in-Whole-clause-goes_on g c =
@@ -71,10 +69,10 @@ returns-in-Whole-clause-goes_on g c =
     let part = part_of g.K.Keeper (head_of c.args.underway) c.args.feed.now c.args.underway.kept is.result c.put_back-sha.new.self.keeper c.put_back-sha.result is.ensures c.requires.holds put.staged put.octets put.hashed in
     let told : Body = record { length = size; digest = c.in-Whole.digest } in
     let come = has_come g.R.Read.remaining size c.args.feed.now took.feed g.K.Keeper took.self.keeper is.result told (small_body (head_of c.args.underway) size c.requires.whole) r.passes (λ t. r.stages t (part t)) refl in
-    whole_goes_on took.feed c.serve_whole-end.result come.taken.1 come.taken.2
+    so_if_answer c.serve_whole-response.result (come.taken.1, come.taken.2)
 
 pub returns-in-Whole-clause-faults : goal.returns-in-Whole-clause-faults
-returns-in-Whole-clause-faults g c = whole_faults c.serve_whole-end.result _ _ _ _ c.in-Whole.ensures.counted c.serve_whole-end.ensures.faults
+returns-in-Whole-clause-faults g c = reading_same c.serve_whole-response.result _ _ c.serve_whole-response.ensures.read c.in-Whole.ensures.counted
 
 pub returns-in-Whole-clause-same : goal.returns-in-Whole-clause-same
 returns-in-Whole-clause-same g c = c.in-Whole.ensures.same
@@ -88,20 +86,20 @@ returns-in-Whole-clause-unstaged g c none =
     let put = c.put_back-sha.ensures in
     let is = c.is_some-is_kept in
     let quiet : Quiet g.K.Keeper c.args.self.now.keeper c.receive.new.self.keeper ⊥ = quiet_then put.quiet (quiet_less (whole_not_gave_up _) r.quiet) in
-    ends_later g.K.Keeper c.args.self.now.keeper c.receive.new.self.keeper c.serve_whole-end.new.self.keeper quiet.rest.never_less
-    (c.serve_whole-end.ensures.unstaged (either_way is.result (λ f. inr (r.unstaged f (unkept c.args.underway.kept is.result is.ensures f (λ no. put.passed no none)))) (λ t. inl t)))
+    ends_later g.K.Keeper c.args.self.now.keeper c.receive.new.self.keeper c.serve_whole-response.new.self.keeper quiet.rest.never_less
+    (c.serve_whole-response.ensures.unstaged (either_way is.result (λ f. inr (r.unstaged f (unkept c.args.underway.kept is.result is.ensures f (λ no. put.passed no none)))) (λ t. inl t)))
 
 pub returns-in-Whole-clause-rest : goal.returns-in-Whole-clause-rest
 returns-in-Whole-clause-rest g c =
     let r = c.in-Whole.ensures in
     let quiet : Quiet g.K.Keeper c.args.self.now.keeper c.receive.new.self.keeper ⊥ = quiet_then c.put_back-sha.ensures.quiet (quiet_less (whole_not_gave_up _) r.quiet) in
     holds_then quiet.rest
-    (holds_less (some_may_later g.K.Keeper c.args.self.now.keeper c.receive.new.self.keeper c.serve_whole-end.new.self.keeper c.serve_whole-end.result quiet.rest.never_less) c.serve_whole-end.ensures.rest)
+    (holds_less (gives_up_later g.K.Keeper c.args.self.now.keeper c.receive.new.self.keeper c.serve_whole-response.new.self.keeper c.serve_whole-response.result quiet.rest.never_less) c.serve_whole-response.ensures.rest)
 
 -- ---- the stream ended within the body
 
 pub returns-in-Lacking-clause-steps : goal.returns-in-Lacking-clause-steps
-returns-in-Lacking-clause-steps g c s p known was kept =
+returns-in-Lacking-clause-steps g c s p known was kept = λ output output' e closed.
     let r = c.in-Lacking.ensures in
     let put = c.put_back-sha.ensures in
     let is = c.is_some-is_kept in
@@ -109,13 +107,13 @@ returns-in-Lacking-clause-steps g c s p known was kept =
     let size = c.args.underway.size in
     let part = part_of g.K.Keeper (head_of c.args.underway) c.args.feed.now c.args.underway.kept is.result c.put_back-sha.new.self.keeper c.put_back-sha.result is.ensures c.requires.holds put.staged put.octets put.hashed in
     let quiet : Quiet g.K.Keeper c.args.self.now.keeper c.let_go_kept.new.self.keeper ⊥ = quiet_then (quiet_then put.quiet (quiet_less lacking_not_gave_up r.quiet)) c.let_go_kept.ensures.quiet in
-    resumed_lacking g.R.Read.remaining size c.args.feed.now took.feed g.C.Clock.now_gives p known (g.W.Write.contents c.args.writer.now.inner) (g.W.Write.contents c.close.new.writer.inner)
+    resumed_lacking g.R.Read.remaining size c.args.feed.now took.feed g.C.Clock.now_gives p known output output'
     c.args.clock.now g.K.Keeper c.args.self.now.keeper c.let_go_kept.new.self.keeper s (take c.args.underway.len c.deref-in-Lacking.result.now)
     (subst (λ (t : List ℕ). Keeps known (prepend_known t (whole_left g.R.Read.remaining c.args.feed.now))) (sym (ap (take c.args.underway.len) c.deref-in-Lacking.ensures)) kept)
-    c.look_again.ensures.0 c.look_again.ensures.1 c.close.result quiet was (either_way is.result r.passes (λ t. r.stages t (part t))) c.close.ensures.closed
+    c.look_again.ensures.0 c.look_again.ensures.1 e quiet was (either_way is.result r.passes (λ t. r.stages t (part t))) closed
 
 pub returns-in-Lacking-clause-faults : goal.returns-in-Lacking-clause-faults
-returns-in-Lacking-clause-faults g c = closed_faults c.close.result _ _ _ _ c.in-Lacking.ensures.counted c.close.ensures.end c.close.ensures.fault c.close.ensures.clean
+returns-in-Lacking-clause-faults g c = c.in-Lacking.ensures.counted
 
 pub returns-in-Lacking-clause-same : goal.returns-in-Lacking-clause-same
 returns-in-Lacking-clause-same g c = c.in-Lacking.ensures.same
@@ -139,7 +137,7 @@ returns-in-Lacking-clause-rest g c =
 -- ---- a read failed within the body
 
 pub returns-in-Broken-clause-steps : goal.returns-in-Broken-clause-steps
-returns-in-Broken-clause-steps g c s p known was kept =
+returns-in-Broken-clause-steps g c s p known was kept = λ output.
     let r = c.in-Broken.ensures in
     let put = c.put_back-sha.ensures in
     let is = c.is_some-is_kept in
@@ -147,13 +145,13 @@ returns-in-Broken-clause-steps g c s p known was kept =
     let size = c.args.underway.size in
     let part = part_of g.K.Keeper (head_of c.args.underway) c.args.feed.now c.args.underway.kept is.result c.put_back-sha.new.self.keeper c.put_back-sha.result is.ensures c.requires.holds put.staged put.octets put.hashed in
     let quiet : Quiet g.K.Keeper c.args.self.now.keeper c.let_go_kept-in-Broken.new.self.keeper ⊥ = quiet_then (quiet_then put.quiet (quiet_less broken_not_gave_up r.quiet)) c.let_go_kept-in-Broken.ensures.quiet in
-    resumed_broken g.R.Read.remaining size c.args.feed.now took.feed g.C.Clock.now_gives p known (g.W.Write.contents c.args.writer.now.inner) (g.W.Write.contents c.args.writer.now.inner)
+    resumed_broken g.R.Read.remaining size c.args.feed.now took.feed g.C.Clock.now_gives p known output output
     c.args.clock.now g.K.Keeper c.args.self.now.keeper c.let_go_kept-in-Broken.new.self.keeper s (take c.args.underway.len c.deref-in-Broken.result.now)
     (subst (λ (t : List ℕ). Keeps known (prepend_known t (whole_left g.R.Read.remaining c.args.feed.now))) (sym (ap (take c.args.underway.len) c.deref-in-Broken.ensures)) kept)
     c.look_again-in-Broken.ensures.0 c.look_again-in-Broken.ensures.1 quiet was (either_way is.result r.passes (λ t. r.stages t (part t)))
 
 pub returns-in-Broken-clause-faults : goal.returns-in-Broken-clause-faults
-returns-in-Broken-clause-faults g c = record { read = λ _. c.in-Broken.ensures.counted; not_read = λ other. absurd (other refl); written = λ is. absurd cc; not_written = λ _. refl }
+returns-in-Broken-clause-faults g c = c.in-Broken.ensures.counted
 
 pub returns-in-Broken-clause-same : goal.returns-in-Broken-clause-same
 returns-in-Broken-clause-same g c = c.in-Broken.ensures.same
@@ -177,7 +175,7 @@ returns-in-Broken-clause-rest g c =
 -- ---- the keeper refused a piece
 
 pub returns-in-GaveUp-clause-steps : goal.returns-in-GaveUp-clause-steps
-returns-in-GaveUp-clause-steps g c s p known was kept =
+returns-in-GaveUp-clause-steps g c s p known was kept = λ output output' e closed.
     let r = c.in-GaveUp.ensures in
     let put = c.put_back-sha.ensures in
     let is = c.is_some-is_kept in
@@ -187,15 +185,15 @@ returns-in-GaveUp-clause-steps g c s p known was kept =
     let up = (r.counts refl).0 in
     let gave_up = r.stages up (part up) in
     let first : Quiet g.K.Keeper c.args.self.now.keeper took.self.keeper (received.GaveUp ≡ received.GaveUp) = quiet_then put.quiet r.quiet in
-    let second : Quiet g.K.Keeper took.self.keeper c.give_up_kept-end.new.self.keeper (MayGiveUp g.K.Keeper took.self.keeper c.give_up_kept-end.new.self.keeper c.give_up_kept-end.result) = c.give_up_kept-end.ensures.quiet in
-    resumed_given_up g.R.Read.remaining size c.args.feed.now took.feed g.C.Clock.now_gives p known (g.W.Write.contents c.args.writer.now.inner) (g.W.Write.contents c.give_up_kept-end.new.writer.inner)
-    c.args.clock.now g.K.Keeper c.args.self.now.keeper c.give_up_kept-end.new.self.keeper s (take c.args.underway.len c.deref-in-GaveUp.result.now)
+    let second : Quiet g.K.Keeper took.self.keeper c.give_up_kept.new.self.keeper ⊤ = c.give_up_kept.ensures.quiet in
+    resumed_given_up g.R.Read.remaining size c.args.feed.now took.feed g.C.Clock.now_gives p known output output'
+    c.args.clock.now g.K.Keeper c.args.self.now.keeper c.give_up_kept.new.self.keeper s (take c.args.underway.len c.deref-in-GaveUp.result.now)
     (subst (λ (t : List ℕ). Keeps known (prepend_known t (whole_left g.R.Read.remaining c.args.feed.now))) (sym (ap (take c.args.underway.len) c.deref-in-GaveUp.ensures)) kept)
-    c.give_up_kept-end.ensures.begun c.give_up_kept-end.result gave_up.0 _ (quiet_both first second) was gave_up.1 c.give_up_kept-end.ensures.closed
+    c.give_up_kept.ensures.begun e gave_up.0 _ (quiet_both first second) was gave_up.1 closed
 
 pub returns-in-GaveUp-clause-faults : goal.returns-in-GaveUp-clause-faults
 returns-in-GaveUp-clause-faults g c =
-    closed_faults c.give_up_kept-end.result _ _ _ _ c.in-GaveUp.ensures.counted c.give_up_kept-end.ensures.end c.give_up_kept-end.ensures.fault c.give_up_kept-end.ensures.clean
+    c.in-GaveUp.ensures.counted
 
 pub returns-in-GaveUp-clause-same : goal.returns-in-GaveUp-clause-same
 returns-in-GaveUp-clause-same g c = c.in-GaveUp.ensures.same
@@ -206,14 +204,14 @@ returns-in-GaveUp-clause-free g c = λ f. (c.in-GaveUp.ensures.free f).0
 pub returns-in-GaveUp-clause-unstaged : goal.returns-in-GaveUp-clause-unstaged
 returns-in-GaveUp-clause-unstaged g c none =
     let first : Quiet g.K.Keeper c.args.self.now.keeper c.receive.new.self.keeper (received.GaveUp ≡ received.GaveUp) = quiet_then c.put_back-sha.ensures.quiet c.in-GaveUp.ensures.quiet in
-    ends_later g.K.Keeper c.args.self.now.keeper c.receive.new.self.keeper c.give_up_kept-end.new.self.keeper first.rest.never_less c.give_up_kept-end.ensures.unstaged
+    ends_later g.K.Keeper c.args.self.now.keeper c.receive.new.self.keeper c.give_up_kept.new.self.keeper first.rest.never_less c.give_up_kept.ensures.unstaged
 
 pub returns-in-GaveUp-clause-rest : goal.returns-in-GaveUp-clause-rest
 returns-in-GaveUp-clause-rest g c =
     let took = c.receive.new in
     let first : Quiet g.K.Keeper c.args.self.now.keeper took.self.keeper (received.GaveUp ≡ received.GaveUp) = quiet_then c.put_back-sha.ensures.quiet c.in-GaveUp.ensures.quiet in
-    let second : Quiet g.K.Keeper took.self.keeper c.give_up_kept-end.new.self.keeper (MayGiveUp g.K.Keeper took.self.keeper c.give_up_kept-end.new.self.keeper c.give_up_kept-end.result) = c.give_up_kept-end.ensures.quiet in
-    holds_less (λ _. closed_again g.K.Keeper _ _ _ _ c.give_up_kept-end.result c.give_up_kept-end.ensures.closed) (quiet_both first second).rest
+    let second : Quiet g.K.Keeper took.self.keeper c.give_up_kept.new.self.keeper ⊤ = c.give_up_kept.ensures.quiet in
+    holds_less (λ _. refl) (quiet_both first second).rest
 
 -- ---- no more bytes may be read now
 
@@ -229,9 +227,11 @@ returns-in-Waits-clause-steps g c s p known was kept =
     let part = part_of g.K.Keeper head c.args.feed.now c.args.underway.kept is.result c.put_back-sha.new.self.keeper c.put_back-sha.result is.ensures c.requires.holds put.staged put.octets put.hashed in
     let quiet : Quiet g.K.Keeper c.args.self.now.keeper c.keep-kept.new.self.keeper ⊥ = quiet_then (quiet_then put.quiet (quiet_less waits_not_gave_up r.quiet)) keeps.quiet in
     let waits = either_way is.result r.passes (λ t. (r.stages t (part t)).0) in (
-      still_begun g.R.Read.remaining g.K.Keeper size c.args.feed.now took.feed head c.args.underway.kept c.requires c.keep-kept.result took.self.keeper took.sha waits
-          (λ y at. sym is.ensures ∙ keeps.some.1 (some_is c.keep-kept.result y at)) (λ some. let t = is.ensures ∙ some in (r.stages t (part t)).1) keeps.kept,
-      still_kept known (whole_left g.R.Read.remaining c.args.feed.now) (whole_left g.R.Read.remaining took.feed) head kept waits.kept,
+      (
+        still_begun g.R.Read.remaining g.K.Keeper size c.args.feed.now took.feed head c.args.underway.kept c.requires c.keep-kept.result took.self.keeper took.sha waits
+            (λ y at. sym is.ensures ∙ keeps.some.1 (some_is c.keep-kept.result y at)) (λ some. let t = is.ensures ∙ some in (r.stages t (part t)).1) keeps.kept,
+        still_kept known (whole_left g.R.Read.remaining c.args.feed.now) (whole_left g.R.Read.remaining took.feed) head kept waits.kept,
+      ),
       stands_by quiet was,
     )
 

@@ -9,7 +9,7 @@ use Rattle.office.specs.Answering.{is_head}
 use Rattle.office.specs.Foreseeing.{Foresees}
 use Rattle.office.specs.Premise.{IsGivenUp}
 use Rattle.sigtext.specs.Readable.{IsReadable}
-use Rattle.office.specs.Stepping.{IsExpected}
+use Rattle.office.specs.Stepping.{IsExpected, ReadsOn}
 use Rattle.office.proofs.BodySteps.{head_given_up_step}
 use Rattle.office.proofs.Foreseen.{upload_readable}
 use Rattle.office.proofs.Handlings.{read_given_up, same_request}
@@ -22,7 +22,7 @@ use Rattle.office.proofs.Unstaged.{ends_later}
 use Rattle.office.proofs.office.Office.serve_head.Goals as goal
 
 pub returns-then-is_given_up-clause-steps : goal.returns-then-is_given_up-clause-steps
-returns-then-is_given_up-clause-steps g c s p known kept x =
+returns-then-is_given_up-clause-steps g c s p known kept x = λ output output' e closed.
     let f = c.requires.parts in
     let foreseen = c.foresee-foreseen.ensures in
     let method = c.args.opening.now.head.method.now in
@@ -31,9 +31,9 @@ returns-then-is_given_up-clause-steps g c s p known kept x =
     let same : request_with c.announce_head-message.result [] ≡ request_of x.opens.head c.args.opening.now.has_length [] =
     c.announce_head-message.ensures.request [] ∙ same_request c.args.opening.now.text.now f.0 x.opens.head method target headers c.args.opening.now.has_length [] f.1 x.opens.tells.is_head f.2 f.3 f.5 in
     let quiet : Quiet g.K.Keeper c.args.self.now.keeper c.foresee-foreseen.new.self.keeper (IsGivenUp c.foresee-foreseen.result) = foreseen.looks.quiet in
-    head_given_up_step g.R.Read.remaining c.args.feed.now g.C.Clock.now_gives p known (g.W.Write.contents c.args.writer.now.inner) (g.W.Write.contents c.close.new.writer.inner) c.args.clock.now
-    g.K.Keeper c.args.self.now.keeper c.foresee-foreseen.new.self.keeper s c.args.opening.now.text.now c.args.opening.now.has_length c.args.opening.now.length x c.close.result (IsGivenUp c.foresee-foreseen.result) quiet kept
-    (subst IsReadable same (read_given_up (request_with c.announce_head-message.result []) c.foresee-foreseen.result (c.is_given_up.ensures.0 c.if-is_given_up.true) (foreseen.readable []))) c.close.ensures.closed
+    head_given_up_step g.R.Read.remaining c.args.feed.now g.C.Clock.now_gives p known output output' c.args.clock.now
+    g.K.Keeper c.args.self.now.keeper c.foresee-foreseen.new.self.keeper s c.args.opening.now.text.now c.args.opening.now.has_length c.args.opening.now.length x e (IsGivenUp c.foresee-foreseen.result) quiet kept
+    (subst IsReadable same (read_given_up (request_with c.announce_head-message.result []) c.foresee-foreseen.result (c.is_given_up.ensures.0 c.if-is_given_up.true) (foreseen.readable []))) closed
 
 pub returns-clause-steps : goal.returns-clause-steps
 returns-clause-steps g c s p known kept x =
@@ -57,10 +57,10 @@ returns-clause-steps g c s p known kept x =
       tells = other;
       head = λ body. c.asks_head-to_head.ensures ∙ ap is_head (same body);
     } in
-    steps_in g.C.Clock.now_gives p known g.R.Read.remaining c.serve_body.new.feed c.args.writer.now c.serve_body.new.writer g.W.Write.contents c.args.clock.now c.serve_body.new.clock g.K.Keeper
+    steps_in g.C.Clock.now_gives p known g.R.Read.remaining c.serve_body.new.feed c.args.clock.now c.serve_body.new.clock g.K.Keeper
     c.args.self.now.keeper c.serve_body.new.self.keeper s text (c.copy_from_slice.new.self ++ drop (length text) c.args.block.now) (length text) c.serve_body.result (copied_front text _ _ (ap (λ (l : List ℕ). l ++ drop (length text) c.args.block.now) c.copy_from_slice.ensures.after)) (taken_all text refl) c.serve_body.ensures.long
-    (steps_later g.C.Clock.now_gives p known g.R.Read.remaining c.serve_body.new.feed c.args.writer.now c.serve_body.new.writer g.W.Write.contents c.args.clock.now c.serve_body.new.clock g.K.Keeper
-    c.args.self.now.keeper mid c.serve_body.new.self.keeper s text c.serve_body.result
+    (steps_later g.C.Clock.now_gives p known g.R.Read.remaining c.serve_body.new.feed c.args.clock.now c.serve_body.new.clock g.K.Keeper
+    (ReadsOn g.R.Read.remaining known c.serve_body.new.feed text) c.args.self.now.keeper mid c.serve_body.new.self.keeper s c.serve_body.result
     (before_quiet g.K.Keeper c.args.self.now.keeper mid s (IsGivenUp result) quiet other kept.means honest)
     (c.serve_body.ensures.steps s p known text (record { means = foreseen.looks.quiet.same s kept.means; is_honest = kept.is_honest; sound = kept.sound }) expected refl))
 

@@ -17,42 +17,42 @@ returns-in-Ok-Head-clause-steps g c s kept =
     c.serve_head.ensures.steps s (place_of c.args.feed.now) (left g.R.Read.remaining c.args.feed.now) kept b.1
 
 pub returns-in-Ok-Refused-clause-steps : goal.returns-in-Ok-Refused-clause-steps
-returns-in-Ok-Refused-clause-steps g c s kept =
+returns-in-Ok-Refused-clause-steps g c s kept = λ output output' e closed.
     let b = brought_by c.read_opening.new.fields (left g.R.Read.remaining c.args.feed.now) (left g.R.Read.remaining c.read_opening.new.feed) (g.R.Read.remaining (reader_of c.read_opening.new.feed).inner)
     (place_of c.read_opening.new.feed) c.in-Ok-Refused.field-0 (came.Refused c.in-Ok-Refused.refusal) c.in-Ok-Refused.field-0-is c.in-Ok-Refused.ensures.brings in
     closed_step g.C.Clock.now_gives (place_of c.args.feed.now) (left g.R.Read.remaining c.args.feed.now) (left g.R.Read.remaining c.read_opening.new.feed)
-    (g.R.Read.remaining (reader_of c.read_opening.new.feed).inner) (g.W.Write.contents c.args.writer.now.inner) (g.W.Write.contents c.close.new.writer.inner)
-    c.args.clock.now g.K.Keeper c.args.self.now.keeper c.args.self.now.keeper s c.in-Ok-Refused.refusal c.close.result (leaves_still g.K.Keeper c.args.self.now.keeper s false (record { means = kept.means; sound = kept.sound })) b.3 c.close.ensures.closed
+    (g.R.Read.remaining (reader_of c.read_opening.new.feed).inner) output output'
+    c.args.clock.now g.K.Keeper c.args.self.now.keeper c.args.self.now.keeper s c.in-Ok-Refused.refusal e (leaves_still g.K.Keeper c.args.self.now.keeper s false (record { means = kept.means; sound = kept.sound })) b.3 closed
 
 pub returns-in-Ok-End-clause-steps : goal.returns-in-Ok-End-clause-steps
-returns-in-Ok-End-clause-steps g c s kept =
+returns-in-Ok-End-clause-steps g c s kept = λ output.
     let b = brought_by c.read_opening.new.fields (left g.R.Read.remaining c.args.feed.now) (left g.R.Read.remaining c.read_opening.new.feed) (g.R.Read.remaining (reader_of c.read_opening.new.feed).inner)
     (place_of c.read_opening.new.feed) c.in-Ok-End.field-0 came.End c.in-Ok-End.field-0-is c.in-Ok-End.ensures.brings in
     ended_step g.C.Clock.now_gives (place_of c.args.feed.now) (left g.R.Read.remaining c.args.feed.now) (left g.R.Read.remaining c.read_opening.new.feed)
-    (g.R.Read.remaining (reader_of c.read_opening.new.feed).inner) (g.W.Write.contents c.args.writer.now.inner)
+    (g.R.Read.remaining (reader_of c.read_opening.new.feed).inner) output
     c.args.clock.now g.K.Keeper c.args.self.now.keeper c.args.self.now.keeper s (leaves_still g.K.Keeper c.args.self.now.keeper s false (record { means = kept.means; sound = kept.sound })) b.1 b.2
 
 pub returns-in-Ok-Truncated-clause-steps : goal.returns-in-Ok-Truncated-clause-steps
-returns-in-Ok-Truncated-clause-steps g c s kept =
+returns-in-Ok-Truncated-clause-steps g c s kept = λ output.
     let b = brought_by c.read_opening.new.fields (left g.R.Read.remaining c.args.feed.now) (left g.R.Read.remaining c.read_opening.new.feed) (g.R.Read.remaining (reader_of c.read_opening.new.feed).inner)
     (place_of c.read_opening.new.feed) c.in-Ok-Truncated.field-0 came.Truncated c.in-Ok-Truncated.field-0-is c.in-Ok-Truncated.ensures.brings in
     truncated_step g.C.Clock.now_gives (place_of c.args.feed.now) (left g.R.Read.remaining c.args.feed.now) (left g.R.Read.remaining c.read_opening.new.feed)
-    (g.R.Read.remaining (reader_of c.read_opening.new.feed).inner) (g.W.Write.contents c.args.writer.now.inner)
+    (g.R.Read.remaining (reader_of c.read_opening.new.feed).inner) output
     c.args.clock.now g.K.Keeper c.args.self.now.keeper c.args.self.now.keeper s (leaves_still g.K.Keeper c.args.self.now.keeper s false (record { means = kept.means; sound = kept.sound })) b.1 b.2
 
 pub returns-in-Err-Read-clause-steps : goal.returns-in-Err-Read-clause-steps
-returns-in-Err-Read-clause-steps g c s kept =
+returns-in-Err-Read-clause-steps g c s kept = λ output.
     let b = broke_off_by (place_of c.args.feed.now) (left g.R.Read.remaining c.args.feed.now) (left g.R.Read.remaining c.read_opening.new.feed) (g.R.Read.remaining (reader_of c.read_opening.new.feed).inner) (place_of c.read_opening.new.feed) c.in-Err-Read.field-0 fault.Read c.in-Err-Read.field-0-is c.in-Err-Read.ensures.fault in
     read_failed_step g.C.Clock.now_gives (place_of c.args.feed.now) (left g.R.Read.remaining c.args.feed.now) (left g.R.Read.remaining c.read_opening.new.feed)
-    (g.R.Read.remaining (reader_of c.read_opening.new.feed).inner) (g.W.Write.contents c.args.writer.now.inner)
+    (g.R.Read.remaining (reader_of c.read_opening.new.feed).inner) output
     c.args.clock.now g.K.Keeper c.args.self.now.keeper c.args.self.now.keeper s b.0 (leaves_still g.K.Keeper c.args.self.now.keeper s false (record { means = kept.means; sound = kept.sound })) b.1 (a_head b.2)
 
 pub returns-in-Err-Memory-clause-steps : goal.returns-in-Err-Memory-clause-steps
-returns-in-Err-Memory-clause-steps g c s kept =
+returns-in-Err-Memory-clause-steps g c s kept = λ output output' e closed.
     let b = broke_off_by (place_of c.args.feed.now) (left g.R.Read.remaining c.args.feed.now) (left g.R.Read.remaining c.read_opening.new.feed) (g.R.Read.remaining (reader_of c.read_opening.new.feed).inner) (place_of c.read_opening.new.feed) c.in-Err-Memory.field-0 fault.Memory c.in-Err-Memory.field-0-is c.in-Err-Memory.ensures.fault in
     gave_up_reading_step g.C.Clock.now_gives (place_of c.args.feed.now) (left g.R.Read.remaining c.args.feed.now) (left g.R.Read.remaining c.read_opening.new.feed)
-    (g.R.Read.remaining (reader_of c.read_opening.new.feed).inner) (g.W.Write.contents c.args.writer.now.inner) (g.W.Write.contents c.close-in-Err-Memory.new.writer.inner)
-    c.args.clock.now g.K.Keeper c.args.self.now.keeper c.args.self.now.keeper s c.close-in-Err-Memory.result [] (leaves_still g.K.Keeper c.args.self.now.keeper s true (record { means = kept.means; sound = kept.sound })) b.1 (inl (b.0, refl)) c.close-in-Err-Memory.ensures.closed
+    (g.R.Read.remaining (reader_of c.read_opening.new.feed).inner) output output'
+    c.args.clock.now g.K.Keeper c.args.self.now.keeper c.args.self.now.keeper s e [] (leaves_still g.K.Keeper c.args.self.now.keeper s true (record { means = kept.means; sound = kept.sound })) b.1 (inl (b.0, refl)) closed
 
 pub serve_head-requires-clause-short : goal.serve_head-requires-clause-short
 serve_head-requires-clause-short g c =

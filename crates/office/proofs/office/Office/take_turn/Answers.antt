@@ -1,11 +1,12 @@
-use Rattle.std.proofs.Common.{◌≡◌, ◌∙◌, None, Some, Option, [], ap, arith, inl, length, refl, subst, sym}
-use Rattle.std.specs.Prelude.{is_some}
+use Rattle.std.proofs.Common.{◌≡◌, ◌∙◌, None, Option, [], ap, arith, inl, length, refl, subst, sym}
+use Rattle.std.specs.Prelude.{is_some, not}
 use Rattle.std.proofs.lemmas.List.{length_push}
 use Rattle.wire.specs.declared.session.SessionEnd.{SessionEnd}
 use Rattle.wire.specs.declared.session.SessionEnd.TheVariants.{Limit}
 use Rattle.wire.specs.declared.standing.Standing.{Standing}
 use Rattle.wire.specs.declared.underway.Underway.{Underway}
 use Rattle.wire.specs.Feeds.{given_before, stood_at}
+use Rattle.wire.specs.declared.feed.Place.TheVariants as place
 use Rattle.wire.specs.Seats.{left_behind, left_of}
 use Rattle.wire.specs.Underways.{IsUnderway}
 use Rattle.wire.specs.Whole.{MayBegin}
@@ -13,11 +14,13 @@ use Rattle.wire.proofs.Begins.{may_begin_there}
 use Rattle.wire.proofs.Ends.{none_of, some_of}
 use Rattle.wire.proofs.Ties.{none_is}
 use Rattle.wire.proofs.Underways.{still_underway}
+use Rattle.office.specs.Responding.{IsTold}
 use Rattle.office.specs.Seats.{TellsTurnOf, ended, had_ended}
 use Rattle.office.proofs.Holding.{holds_less, holds_still}
 use Rattle.office.proofs.SeatAsides.{answered_turn, begins_aside, begins_at, ended_turn, never_fresh, none_underway, read_on_turn}
 use Rattle.office.proofs.SeatTurns.{turn_tells}
 use Rattle.office.proofs.SessionSteps.{none_ends, none_gives_up, not_fresh, serves_none}
+use Rattle.office.proofs.Told.{steps_told, told_answer, told_faults, told_gives_up}
 use Rattle.office.proofs.office.Office.take_turn.Goals as goal
 
 pub returns-then-is_some-clause-turns : goal.returns-then-is_some-clause-turns
@@ -53,37 +56,6 @@ pub turn_aside-aside-requires-clause-goes_on : goal.turn_aside-aside-requires-cl
 turn_aside-aside-requires-clause-goes_on g c u is =
     subst (λ (l : Standing). IsUnderway u l) (sym c.replace-standing.ensures.value) (c.args.seat.now.goes_on u (sym c.take-underway.ensures.value ∙ is))
 
-pub returns-in-Answered-clause-turns : goal.returns-in-Answered-clause-turns
-returns-in-Answered-clause-turns g c s kept =
-    let seat = c.args.seat.now in
-    let rest = g.R.Read.remaining seat.reader.inner in
-    let was_open = none_of seat.end (sym (ap is_some c.end.ensures) ∙ sym c.is_some.ensures ∙ c.if-is_some.false) in
-    let known : left_behind c.take-underway.result c.replace-standing.result rest ≡ left_of g.R.Read.remaining seat =
-    ap (λ (u : Option Underway). left_behind u c.replace-standing.result rest) c.take-underway.ensures.value ∙ ap (λ (l : Standing). left_behind seat.underway l rest) c.replace-standing.ensures.value in
-    answered_turn g.C.Clock.now_gives g.R.Read.remaining g.W.Write.contents seat _ c.turn_aside-aside.result c.args.clock.now c.turn_aside-aside.new.clock g.K.Keeper c.args.self.now.keeper c.turn_aside-aside.new.self.keeper s
-    was_open _ c.turn_aside-aside.result.turn known c.in-Answered.is was_open refl refl refl refl c.turn_aside-aside.ensures.stands (c.turn_aside-aside.ensures.turns s kept)
-
-pub returns-in-ReadOn-clause-turns : goal.returns-in-ReadOn-clause-turns
-returns-in-ReadOn-clause-turns g c s kept =
-    let seat = c.args.seat.now in
-    let rest = g.R.Read.remaining seat.reader.inner in
-    let was_open = none_of seat.end (sym (ap is_some c.end.ensures) ∙ sym c.is_some.ensures ∙ c.if-is_some.false) in
-    let known : left_behind c.take-underway.result c.replace-standing.result rest ≡ left_of g.R.Read.remaining seat =
-    ap (λ (u : Option Underway). left_behind u c.replace-standing.result rest) c.take-underway.ensures.value ∙ ap (λ (l : Standing). left_behind seat.underway l rest) c.replace-standing.ensures.value in
-    let longer = ap length c.and-seat.ensures in
-    read_on_turn g.C.Clock.now_gives g.R.Read.remaining g.W.Write.contents seat _ c.turn_aside-aside.result c.args.clock.now c.turn_aside-aside.new.clock g.K.Keeper c.args.self.now.keeper c.turn_aside-aside.new.self.keeper s
-    was_open _ c.turn_aside-aside.result.turn known c.in-ReadOn.is was_open refl (longer ∙ omega (arith, length_push seat.waited.items (seat.served, seat.served))) refl refl (c.turn_aside-aside.ensures.turns s kept)
-
-pub returns-in-Ended-clause-turns : goal.returns-in-Ended-clause-turns
-returns-in-Ended-clause-turns g c s kept =
-    let seat = c.args.seat.now in
-    let rest = g.R.Read.remaining seat.reader.inner in
-    let was_open = none_of seat.end (sym (ap is_some c.end.ensures) ∙ sym c.is_some.ensures ∙ c.if-is_some.false) in
-    let known : left_behind c.take-underway.result c.replace-standing.result rest ≡ left_of g.R.Read.remaining seat =
-    ap (λ (u : Option Underway). left_behind u c.replace-standing.result rest) c.take-underway.ensures.value ∙ ap (λ (l : Standing). left_behind seat.underway l rest) c.replace-standing.ensures.value in
-    ended_turn g.C.Clock.now_gives g.R.Read.remaining g.W.Write.contents seat _ c.turn_aside-aside.result c.args.clock.now c.turn_aside-aside.new.clock g.K.Keeper c.args.self.now.keeper c.turn_aside-aside.new.self.keeper s
-    was_open _ c.turn_aside-aside.result.turn c.in-Ended.end known c.in-Ended.is (omega (arith, c.if-seat-ge-MOST_MESSAGES.false)) refl refl refl (c.turn_aside-aside.ensures.turns s kept)
-
 pub invariant_of-seat : goal.invariant_of-seat
 invariant_of-seat g c =
     let seat = c.args.seat.now in
@@ -93,42 +65,6 @@ invariant_of-seat g c =
       forgot = λ over none. absurd (none_is Limit (sym over));
       goes_on = still_underway seat.underway seat.standing c.let_go.new.self c.let_go.ensures.place c.let_go.ensures.given seat.goes_on;
       fresh = λ over at. absurd (none_is Limit (sym over));
-    }
-
-pub invariant_of-seat-in-Answered : goal.invariant_of-seat-in-Answered
-invariant_of-seat-in-Answered g c =
-    let aside = c.turn_aside-aside.result in
-    let stands = rw c.in-Answered.is at c.turn_aside-aside.ensures.stands in
-    record {
-      few = omega (arith, c.if-seat-ge-MOST_MESSAGES.false);
-      begins = λ still none. begins_at aside.standing stands.1;
-      forgot = λ still none. stands.2;
-      goes_on = none_underway aside.underway aside.standing stands.0;
-      fresh = λ still at. absurd (not_fresh (stood_at aside.standing) stands.1 at);
-    }
-
-pub invariant_of-seat-in-ReadOn : goal.invariant_of-seat-in-ReadOn
-invariant_of-seat-in-ReadOn g c =
-    let aside = c.turn_aside-aside.result in
-    let stands = rw c.in-ReadOn.is at c.turn_aside-aside.ensures.stands in
-    record {
-      few = c.args.seat.now.few;
-      begins = λ still none. begins_aside aside stands none;
-      forgot = λ still none. (stands.0 none).1;
-      goes_on = stands.1;
-      fresh = λ still at. absurd (never_fresh aside aside.underway refl stands at);
-    }
-
-pub invariant_of-seat-in-Ended : goal.invariant_of-seat-in-Ended
-invariant_of-seat-in-Ended g c =
-    let aside = c.turn_aside-aside.result in
-    let stands = rw c.in-Ended.is at c.turn_aside-aside.ensures.stands in
-    record {
-      few = c.args.seat.now.few;
-      begins = λ over none. absurd (none_is c.in-Ended.end (sym over));
-      forgot = λ over none. absurd (none_is c.in-Ended.end (sym over));
-      goes_on = none_underway aside.underway c.let_go-in-Ended.new.self stands;
-      fresh = λ over at. absurd (none_is c.in-Ended.end (sym over));
     }
 
 pub returns-then-is_some-clause-unstaged : goal.returns-then-is_some-clause-unstaged
@@ -142,39 +78,6 @@ returns-then-seat-ge-MOST_MESSAGES-clause-unstaged g c = λ none. inl none
 
 pub returns-then-seat-ge-MOST_MESSAGES-clause-rest : goal.returns-then-seat-ge-MOST_MESSAGES-clause-rest
 returns-then-seat-ge-MOST_MESSAGES-clause-rest g c = holds_still
-
-pub returns-in-Answered-clause-unstaged : goal.returns-in-Answered-clause-unstaged
-returns-in-Answered-clause-unstaged g c = c.turn_aside-aside.ensures.unstaged
-
-pub returns-in-ReadOn-clause-unstaged : goal.returns-in-ReadOn-clause-unstaged
-returns-in-ReadOn-clause-unstaged g c = c.turn_aside-aside.ensures.unstaged
-
-pub returns-in-Ended-clause-unstaged : goal.returns-in-Ended-clause-unstaged
-returns-in-Ended-clause-unstaged g c = c.turn_aside-aside.ensures.unstaged
-
-pub returns-in-Answered-clause-rest : goal.returns-in-Answered-clause-rest
-returns-in-Answered-clause-rest g c = holds_less (λ (is : ⊥). absurd is) (rw c.in-Answered.is at c.turn_aside-aside.ensures.rest)
-
-pub returns-in-ReadOn-clause-rest : goal.returns-in-ReadOn-clause-rest
-returns-in-ReadOn-clause-rest g c = holds_less (λ (is : ⊥). absurd is) (rw c.in-ReadOn.is at c.turn_aside-aside.ensures.rest)
-
-pub returns-in-Ended-clause-rest : goal.returns-in-Ended-clause-rest
-returns-in-Ended-clause-rest g c = rw c.in-Ended.is at c.turn_aside-aside.ensures.rest
-
-pub returns-in-Answered-clause-faults : goal.returns-in-Answered-clause-faults
-returns-in-Answered-clause-faults g c =
-    let was_open = none_of c.args.seat.now.end (sym (ap is_some c.end.ensures) ∙ sym c.is_some.ensures ∙ c.if-is_some.false) in
-    turn_tells c.args.seat.now _ None was_open was_open (rw c.in-Answered.is at c.turn_aside-aside.ensures.faults)
-
-pub returns-in-ReadOn-clause-faults : goal.returns-in-ReadOn-clause-faults
-returns-in-ReadOn-clause-faults g c =
-    let was_open = none_of c.args.seat.now.end (sym (ap is_some c.end.ensures) ∙ sym c.is_some.ensures ∙ c.if-is_some.false) in
-    turn_tells c.args.seat.now _ None was_open was_open (rw c.in-ReadOn.is at c.turn_aside-aside.ensures.faults)
-
-pub returns-in-Ended-clause-faults : goal.returns-in-Ended-clause-faults
-returns-in-Ended-clause-faults g c =
-    let was_open = none_of c.args.seat.now.end (sym (ap is_some c.end.ensures) ∙ sym c.is_some.ensures ∙ c.if-is_some.false) in
-    turn_tells c.args.seat.now _ (Some c.in-Ended.end) was_open refl (rw c.in-Ended.is at c.turn_aside-aside.ensures.faults)
 
 pub returns-then-is_some-clause-faults : goal.returns-then-is_some-clause-faults
 returns-then-is_some-clause-faults g c =
@@ -194,22 +97,157 @@ returns-then-seat-ge-MOST_MESSAGES-clause-all g c = λ other. absurd (other refl
 pub returns-then-seat-ge-MOST_MESSAGES-clause-awaits : goal.returns-then-seat-ge-MOST_MESSAGES-clause-awaits
 returns-then-seat-ge-MOST_MESSAGES-clause-awaits g c = λ other. absurd (other refl)
 
-pub returns-in-Answered-clause-all : goal.returns-in-Answered-clause-all
-returns-in-Answered-clause-all g c = λ other. absurd (other refl)
+-- ---- the turn only read on
 
-pub returns-in-Answered-clause-awaits : goal.returns-in-Answered-clause-awaits
-returns-in-Answered-clause-awaits g c = λ other. absurd (other refl)
+pub returns-in_default-clause-turns : goal.returns-in_default-clause-turns
+returns-in_default-clause-turns g c s kept =
+    let seat = c.args.seat.now in
+    let was_open = none_of c.args.seat.now.end (sym (ap is_some c.end.ensures) ∙ sym c.is_some.ensures ∙ c.if-is_some.false) in
+    let rest = g.R.Read.remaining seat.reader.inner in
+    let known : left_behind c.take-underway.result c.replace-standing.result rest ≡ left_of g.R.Read.remaining seat =
+    ap (λ (u : Option Underway). left_behind u c.replace-standing.result rest) c.take-underway.ensures.value ∙ ap (λ (l : Standing). left_behind seat.underway l rest) c.replace-standing.ensures.value in
+    let longer = ap length c.and-seat.ensures in
+    read_on_turn g.C.Clock.now_gives g.R.Read.remaining g.W.Write.contents seat _ c.turn_aside-aside.result c.args.clock.now c.turn_aside-aside.new.clock g.K.Keeper c.args.self.now.keeper c.turn_aside-aside.new.self.keeper s
+    was_open _ c.turn_aside-aside.result.turn known c.in_default.is was_open refl (longer ∙ omega (arith, length_push seat.waited.items (seat.served, seat.served))) refl refl refl (c.turn_aside-aside.ensures.turns s kept)
 
-pub returns-in-Ended-clause-all : goal.returns-in-Ended-clause-all
-returns-in-Ended-clause-all g c = λ other. absurd (other refl)
+pub returns-in_default-clause-faults : goal.returns-in_default-clause-faults
+returns-in_default-clause-faults g c =
+    let seat = c.args.seat.now in
+    let was_open = none_of c.args.seat.now.end (sym (ap is_some c.end.ensures) ∙ sym c.is_some.ensures ∙ c.if-is_some.false) in
+    turn_tells seat _ None was_open was_open (rw c.in_default.is at c.turn_aside-aside.ensures.faults, refl)
 
-pub returns-in-Ended-clause-awaits : goal.returns-in-Ended-clause-awaits
-returns-in-Ended-clause-awaits g c = λ other. absurd (other refl)
+pub returns-in_default-clause-unstaged : goal.returns-in_default-clause-unstaged
+returns-in_default-clause-unstaged g c = c.turn_aside-aside.ensures.unstaged
 
-pub returns-in-ReadOn-clause-all : goal.returns-in-ReadOn-clause-all
-returns-in-ReadOn-clause-all g c = λ _. c.turn_aside-aside.ensures.all c.in-ReadOn.is
+pub returns-in_default-clause-rest : goal.returns-in_default-clause-rest
+returns-in_default-clause-rest g c = holds_less (λ (is : ⊥). absurd is) (rw c.in_default.is at c.turn_aside-aside.ensures.rest)
 
-pub returns-in-ReadOn-clause-awaits : goal.returns-in-ReadOn-clause-awaits
-returns-in-ReadOn-clause-awaits g c = λ _.
-    let stands = rw c.in-ReadOn.is at c.turn_aside-aside.ensures.stands in
+pub returns-in_default-clause-free : goal.returns-in_default-clause-free
+returns-in_default-clause-free g c = λ none. absurd (rw none at c.turn_aside-aside.ensures.all c.in_default.is)
+
+pub returns-in_default-clause-all : goal.returns-in_default-clause-all
+returns-in_default-clause-all g c = λ _. c.turn_aside-aside.ensures.all c.in_default.is
+
+pub returns-in_default-clause-awaits : goal.returns-in_default-clause-awaits
+returns-in_default-clause-awaits g c = λ _.
+    let stands = rw c.in_default.is at c.turn_aside-aside.ensures.stands in
     stands.2
+
+pub invariant_of-seat-in_default : goal.invariant_of-seat-in_default
+invariant_of-seat-in_default g c =
+    let aside = c.turn_aside-aside.result in
+    let stands = rw c.in_default.is at c.turn_aside-aside.ensures.stands in
+    record {
+      few = c.args.seat.now.few;
+      begins = λ still none. begins_aside aside stands none;
+      forgot = λ still none. (stands.0 none).1;
+      goes_on = stands.1;
+      fresh = λ still at. absurd (never_fresh aside aside.underway refl stands at);
+    }
+
+-- ---- a message was heard, and the connection goes on
+
+pub returns-then-is_none-clause-turns : goal.returns-then-is_none-clause-turns
+returns-then-is_none-clause-turns g c s kept =
+    let seat = c.args.seat.now in
+    let was_open = none_of c.args.seat.now.end (sym (ap is_some c.end.ensures) ∙ sym c.is_some.ensures ∙ c.if-is_some.false) in
+    let rest = g.R.Read.remaining seat.reader.inner in
+    let known : left_behind c.take-underway.result c.replace-standing.result rest ≡ left_of g.R.Read.remaining seat =
+    ap (λ (u : Option Underway). left_behind u c.replace-standing.result rest) c.take-underway.ensures.value ∙ ap (λ (l : Standing). left_behind seat.underway l rest) c.replace-standing.ensures.value in
+    let aside = c.turn_aside-aside.result in
+    let old = g.W.Write.contents seat.writer.inner in
+    let new = g.W.Write.contents c.respond-seat.new.writer.inner in
+    let by = rw c.in-Done.is at c.turn_aside-aside.ensures.turns s kept in
+    let h = steps_told g.C.Clock.now_gives place.Between (left_behind c.take-underway.result c.replace-standing.result rest) (left_behind None aside.standing (g.R.Read.remaining c.turn_aside-aside.new.reader.inner)) (g.R.Read.remaining c.turn_aside-aside.new.reader.inner)
+    c.args.clock.now c.turn_aside-aside.new.clock g.K.Keeper c.args.self.now.keeper c.turn_aside-aside.new.self.keeper s old new c.in-Done.response c.respond-seat.result by (rw c.in-Done.is at c.respond-seat.ensures.told) in
+    let still = none_of c.respond-seat.result (c.is_none.ensures ∙ ap not c.if-is_none.true) in
+    let stands = rw c.in-Done.is at c.turn_aside-aside.ensures.stands in
+    answered_turn g.C.Clock.now_gives g.R.Read.remaining g.W.Write.contents seat _ aside c.args.clock.now c.turn_aside-aside.new.clock g.K.Keeper c.args.self.now.keeper c.turn_aside-aside.new.self.keeper s
+    was_open _ c.respond-seat.result known still still refl refl refl refl stands.0 h
+
+pub invariant_of-seat-then-is_none : goal.invariant_of-seat-then-is_none
+invariant_of-seat-then-is_none g c =
+    let aside = c.turn_aside-aside.result in
+    let stands = rw c.in-Done.is at c.turn_aside-aside.ensures.stands in
+    let old = g.W.Write.contents c.args.seat.now.writer.inner in
+    let new = g.W.Write.contents c.respond-seat.new.writer.inner in
+    let still = none_of c.respond-seat.result (c.is_none.ensures ∙ ap not c.if-is_none.true) in
+    let at = told_answer old new c.in-Done.response (subst (IsTold old new c.in-Done.response) still (rw c.in-Done.is at c.respond-seat.ensures.told)) stands.1 in
+    record {
+      few = omega (arith, c.if-seat-ge-MOST_MESSAGES.false);
+      begins = λ still none. begins_at aside.standing at.0;
+      forgot = λ still none. at.1;
+      goes_on = none_underway aside.underway aside.standing stands.0;
+      fresh = λ still fresh. absurd (not_fresh (stood_at aside.standing) at.0 fresh);
+    }
+
+-- ---- the connection ended
+
+pub returns-clause-turns : goal.returns-clause-turns
+returns-clause-turns g c s kept =
+    let seat = c.args.seat.now in
+    let was_open = none_of c.args.seat.now.end (sym (ap is_some c.end.ensures) ∙ sym c.is_some.ensures ∙ c.if-is_some.false) in
+    let rest = g.R.Read.remaining seat.reader.inner in
+    let known : left_behind c.take-underway.result c.replace-standing.result rest ≡ left_of g.R.Read.remaining seat =
+    ap (λ (u : Option Underway). left_behind u c.replace-standing.result rest) c.take-underway.ensures.value ∙ ap (λ (l : Standing). left_behind seat.underway l rest) c.replace-standing.ensures.value in
+    let aside = c.turn_aside-aside.result in
+    let old = g.W.Write.contents seat.writer.inner in
+    let new = g.W.Write.contents c.respond-seat.new.writer.inner in
+    let by = rw c.in-Done.is at c.turn_aside-aside.ensures.turns s kept in
+    let h = steps_told g.C.Clock.now_gives place.Between (left_behind c.take-underway.result c.replace-standing.result rest) (left_behind None aside.standing (g.R.Read.remaining c.turn_aside-aside.new.reader.inner)) (g.R.Read.remaining c.turn_aside-aside.new.reader.inner)
+    c.args.clock.now c.turn_aside-aside.new.clock g.K.Keeper c.args.self.now.keeper c.turn_aside-aside.new.self.keeper s old new c.in-Done.response c.respond-seat.result by (rw c.in-Done.is at c.respond-seat.ensures.told) in
+    let over = some_of c.respond-seat.result (c.is_none.ensures ∙ ap not c.if-is_none.false) in
+    ended_turn g.C.Clock.now_gives g.R.Read.remaining g.W.Write.contents seat _ aside c.args.clock.now c.turn_aside-aside.new.clock g.K.Keeper c.args.self.now.keeper c.turn_aside-aside.new.self.keeper s
+    was_open _ c.respond-seat.result over.0 known over.1 (omega (arith, c.if-seat-ge-MOST_MESSAGES.false)) over.1 refl refl h
+
+-- ---- either way
+
+pub returns-then-is_none-clause-faults : goal.returns-then-is_none-clause-faults
+returns-then-is_none-clause-faults g c =
+    let seat = c.args.seat.now in
+    let was_open = none_of c.args.seat.now.end (sym (ap is_some c.end.ensures) ∙ sym c.is_some.ensures ∙ c.if-is_some.false) in
+    let old = g.W.Write.contents seat.writer.inner in
+    let new = g.W.Write.contents c.respond-seat.new.writer.inner in
+    turn_tells seat _ c.respond-seat.result was_open refl
+    (told_faults c.in-Done.response c.respond-seat.result seat.reader c.turn_aside-aside.new.reader seat.writer c.respond-seat.new.writer old new (rw c.in-Done.is at c.respond-seat.ensures.told) (rw c.in-Done.is at c.turn_aside-aside.ensures.faults) c.respond-seat.ensures.faults)
+
+pub returns-then-is_none-clause-unstaged : goal.returns-then-is_none-clause-unstaged
+returns-then-is_none-clause-unstaged g c = c.turn_aside-aside.ensures.unstaged
+
+pub returns-then-is_none-clause-rest : goal.returns-then-is_none-clause-rest
+returns-then-is_none-clause-rest g c =
+    let old = g.W.Write.contents c.args.seat.now.writer.inner in
+    let new = g.W.Write.contents c.respond-seat.new.writer.inner in
+    holds_less (told_gives_up g.K.Keeper c.args.self.now.keeper c.turn_aside-aside.new.self.keeper old new c.in-Done.response c.respond-seat.result (rw c.in-Done.is at c.respond-seat.ensures.told))
+    (rw c.in-Done.is at c.turn_aside-aside.ensures.rest)
+
+pub returns-then-is_none-clause-all : goal.returns-then-is_none-clause-all
+returns-then-is_none-clause-all g c = λ other. absurd (other refl)
+
+pub returns-then-is_none-clause-awaits : goal.returns-then-is_none-clause-awaits
+returns-then-is_none-clause-awaits g c = λ other. absurd (other refl)
+
+pub returns-clause-faults : goal.returns-clause-faults
+returns-clause-faults g c =
+    let seat = c.args.seat.now in
+    let was_open = none_of c.args.seat.now.end (sym (ap is_some c.end.ensures) ∙ sym c.is_some.ensures ∙ c.if-is_some.false) in
+    let old = g.W.Write.contents seat.writer.inner in
+    let new = g.W.Write.contents c.respond-seat.new.writer.inner in
+    turn_tells seat _ c.respond-seat.result was_open refl
+    (told_faults c.in-Done.response c.respond-seat.result seat.reader c.turn_aside-aside.new.reader seat.writer c.respond-seat.new.writer old new (rw c.in-Done.is at c.respond-seat.ensures.told) (rw c.in-Done.is at c.turn_aside-aside.ensures.faults) c.respond-seat.ensures.faults)
+
+pub returns-clause-unstaged : goal.returns-clause-unstaged
+returns-clause-unstaged g c = c.turn_aside-aside.ensures.unstaged
+
+pub returns-clause-rest : goal.returns-clause-rest
+returns-clause-rest g c =
+    let old = g.W.Write.contents c.args.seat.now.writer.inner in
+    let new = g.W.Write.contents c.respond-seat.new.writer.inner in
+    holds_less (told_gives_up g.K.Keeper c.args.self.now.keeper c.turn_aside-aside.new.self.keeper old new c.in-Done.response c.respond-seat.result (rw c.in-Done.is at c.respond-seat.ensures.told))
+    (rw c.in-Done.is at c.turn_aside-aside.ensures.rest)
+
+pub returns-clause-all : goal.returns-clause-all
+returns-clause-all g c = λ other. absurd (other refl)
+
+pub returns-clause-awaits : goal.returns-clause-awaits
+returns-clause-awaits g c = λ other. absurd (other refl)

@@ -1,5 +1,5 @@
 use Rattle.std.proofs.Common.{arith}
-use Rattle.office.proofs.connections.stepping.close.Goals as goal
+use Rattle.office.proofs.connections.responding.close.Goals as goal
 
 pub returns-clause-clean : goal.returns-clause-clean
 returns-clause-clean g c = grind arith

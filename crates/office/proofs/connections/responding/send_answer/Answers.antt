@@ -1,5 +1,5 @@
 use Rattle.std.proofs.Common.{arith}
-use Rattle.office.proofs.connections.handling.send_answer.Goals as goal
+use Rattle.office.proofs.connections.responding.send_answer.Goals as goal
 
 pub returns-else-gives_up-clause-clean : goal.returns-else-gives_up-clause-clean
 returns-else-gives_up-clause-clean g c = grind arith
