@@ -48,6 +48,9 @@ MORE_MEMORY = 0.6
 MOST_MEMORY = 0.85
 # A task that took less than this share of its seconds was taken over from an earlier run.
 WHOLE = 0.2
+# What an earlier run proved is taken over within so many seconds. While a task is younger, nobody knows whether its processors will
+# be free at once, so no other begins.
+SETTLES = 5
 # The program whose tests take long.
 TESTED = "drop"
 # How many other checks run while it is built, and by how much their priority is lower.
@@ -182,6 +185,12 @@ class Lanes:
                 self.running[self.pools[is_first].submit(self.tasks[key][3], self.given, jobs)] = key, needs, jobs
                 self.began[key] = time.monotonic()
 
+    def settles_in(self):
+        """In how many seconds it is known that no task that runs is only taken over; None if it is known now."""
+        begun = [self.began[key] for key, *_ in self.running.values()]
+        left = max(begun) + SETTLES - time.monotonic() if begun else 0
+        return left if left > 0 else None
+
     def seconds_left(self, is_first):
         """The tasks of this kind that run, each with its processors and how many seconds it will still take."""
         now, at_work = time.monotonic(), [(key, jobs) for key, _, jobs in self.running.values() if is_for_program(key) == is_first]
@@ -200,9 +209,11 @@ class Lanes:
 
     def run(self):
         """Runs them all, and returns what each gave."""
+        first = concurrent.futures.FIRST_COMPLETED
         while self.left or self.running:
-            self.begin()
-            for it in concurrent.futures.wait(self.running, return_when=concurrent.futures.FIRST_COMPLETED).done:
+            if self.settles_in() is None:
+                self.begin()
+            for it in concurrent.futures.wait(self.running, timeout=self.settles_in(), return_when=first).done:
                 key, needs, _ = self.running.pop(it)
                 self.memory += needs
                 self.given[key] = it.result()
