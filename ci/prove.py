@@ -371,10 +371,11 @@ def copy_of(names):
 
 
 def proved(names):
-    """Proves the crates of these names, and those below them; all if none is given. Returns the status of `rt ci`."""
+    """Proves the crates of these names, and those below them; all if none is given. Returns the status of `rt ci`, which works on a
+    copy if names are given: only without any it leaves libraries and programs in `crates/NAME/out`."""
     try:
         if hasattr(RT, "where_disk_lasts"):
-            return RT.where_disk_lasts(RT.ci, False, names or [it.name for it in RT.rtlib.crates_below(str(kit.ROOT))])
+            return RT.where_disk_lasts(RT.ci, False, names)
         # an older `rt` proves all that lies below the folder where it works
         with copy_of(names) if names else contextlib.nullcontext():
             return RT.ci()
