@@ -10,7 +10,7 @@ ghost use Rattle.boxes.specs.Rows.{IsOfficeOf, key_of, settings_of, IsFileAt, re
 ghost use Rattle.boxes.specs.Rules.{HasBytes};
 ghost use Rattle.boxes.specs.Sound.{IsSound};
 ghost use Rattle.boxes.specs.Changes.{IsChangeOf, IsPastFull, TakesStaged};
-ghost use Rattle.boxes.specs.Keeping.{Answers, Stays, StaysSure, KeepsStaged, LeavesAlone, LeavesEither};
+ghost use Rattle.boxes.specs.Keeping.{Answers, Stays, StaysSure, KeepsGroup, KeepsStaged, LeavesAlone, LeavesEither, LosesGroup, RestsSettled, Settles};
 
 use crate::{BoxRow, Change, FileRow, KeyRow, OfficeRow, ReceiptRow, Totals};
 use thiserror::Error;
@@ -30,7 +30,10 @@ pub enum KeepFault {
 }
 
 /// Keeps the state of an office, and counts the calls that fail. The count stops at its greatest value. An error
-/// leaves the state unchanged. Answers are promised only for sound states.
+/// of any call but `settle` leaves the state unchanged. Answers are promised only for sound states.
+///
+/// Changes may be kept in a group, which `gather` begins and `settle` ends. Within a group the keeper answers as if its
+/// changes were kept. `settle` keeps all of them at once, or none. A crash before it loses all of them.
 pub trait Keeper {
     /// What is kept means this state. This is a relation, because a store that is shut shows nothing.
     ghost means: { Self → State → Type 0 };
@@ -48,11 +51,23 @@ pub trait Keeper {
     /// How many calls failed.
     ghost faults: { Self → ℕ };
 
-    /// A crash now may leave this state. For memory this has no meaning.
+    /// A crash may leave this state once the changes of the group are kept. For memory this has no meaning.
     ghost leaves: { Self → State → Type 0 };
 
-    /// Whatever a crash now leaves means a state.
+    /// Whatever a crash leaves then means a state.
     ghost leaves_whole: { Self → Type 0 };
+
+    /// A crash now may leave this state. Outside a group this is `leaves`.
+    ghost rests: { Self → State → Type 0 };
+
+    /// Whatever a crash now leaves means a state.
+    ghost rests_whole: { Self → Type 0 };
+
+    /// No group has begun: a change is kept when `apply` returns.
+    ghost is_alone: { Self → Type 0 };
+
+    /// The second keeper is in a group that began when it was the first.
+    ghost gathers: { Self → Self → Type 0 };
 
     /// There is a store below, which may refuse any call. Memory has none.
     ghost has_store: { Type 0 };
@@ -61,7 +76,7 @@ pub trait Keeper {
     fn settings(&mut self) -> Result<OfficeRow, KeepFault>
         ensures value { Answers means is_honest self.old self.new result IsOfficeOf }
         ensures rest { Stays means is_honest is_open faults leaves leaves_whole has_store
-            self.old self.new result }
+            is_alone gathers self.old self.new result }
         ensures staged { KeepsStaged stages self.old self.new }
         ensures sure { OnErr result has_store };
 
@@ -70,7 +85,7 @@ pub trait Keeper {
         ensures value { Answers means is_honest self.old self.new result
             (λ s k. option_map key_of k ≡ get s.keys id.now) }
         ensures rest { Stays means is_honest is_open faults leaves leaves_whole has_store
-            self.old self.new result }
+            is_alone gathers self.old self.new result }
         ensures staged { KeepsStaged stages self.old self.new };
 
     /// Whether the key of this id may use the box of this name: the key is not limited, or this box is one of those that it
@@ -79,7 +94,7 @@ pub trait Keeper {
         ensures value { Answers means is_honest self.old self.new result
             (λ s b. IsTrue b ↔ MayUse s id.now in_box.now) }
         ensures rest { Stays means is_honest is_open faults leaves leaves_whole has_store
-            self.old self.new result }
+            is_alone gathers self.old self.new result }
         ensures staged { KeepsStaged stages self.old self.new }
         ensures sure { OnErr result has_store };
 
@@ -88,7 +103,7 @@ pub trait Keeper {
         ensures value { Answers means is_honest self.old self.new result
             (λ s b. IsTrue b ↔ IsLimitedTo s id.now in_box.now) }
         ensures rest { Stays means is_honest is_open faults leaves leaves_whole has_store
-            self.old self.new result }
+            is_alone gathers self.old self.new result }
         ensures staged { KeepsStaged stages self.old self.new }
         ensures sure { OnErr result has_store };
 
@@ -97,7 +112,7 @@ pub trait Keeper {
         ensures value { Answers means is_honest self.old self.new result
             (λ s b. option_map settings_of b ≡ get s.boxes name.now) }
         ensures rest { Stays means is_honest is_open faults leaves leaves_whole has_store
-            self.old self.new result }
+            is_alone gathers self.old self.new result }
         ensures staged { KeepsStaged stages self.old self.new };
 
     /// The file of this box and name, with its receipt.
@@ -105,7 +120,7 @@ pub trait Keeper {
         ensures value { Answers means is_honest self.old self.new result
             (λ s f. IsFileAt s (record { box = in_box.now; name = name.now }) f) }
         ensures rest { Stays means is_honest is_open faults leaves leaves_whole has_store
-            self.old self.new result }
+            is_alone gathers self.old self.new result }
         ensures staged { KeepsStaged stages self.old self.new };
 
     /// The receipt of the file of this box and name.
@@ -113,7 +128,7 @@ pub trait Keeper {
         ensures value { Answers means is_honest self.old self.new result
             (λ s r. IsReceiptAt s (record { box = in_box.now; name = name.now }) r) }
         ensures rest { Stays means is_honest is_open faults leaves leaves_whole has_store
-            self.old self.new result }
+            is_alone gathers self.old self.new result }
         ensures staged { KeepsStaged stages self.old self.new };
 
     /// The totals of the box of this name. They are zero if it does not exist. Takes no memory.
@@ -121,7 +136,7 @@ pub trait Keeper {
         ensures value { Answers means is_honest self.old self.new result
             (λ s t. AreTotals s in_box.now t) }
         ensures rest { Stays means is_honest is_open faults leaves leaves_whole has_store
-            self.old self.new result }
+            is_alone gathers self.old self.new result }
         ensures staged { KeepsStaged stages self.old self.new }
         ensures sure { OnErr result has_store };
 
@@ -129,7 +144,7 @@ pub trait Keeper {
     fn clerks(&mut self) -> Result<u64, KeepFault>
         ensures value { Answers means is_honest self.old self.new result (λ s n. n ≡ clerks s) }
         ensures rest { Stays means is_honest is_open faults leaves leaves_whole has_store
-            self.old self.new result }
+            is_alone gathers self.old self.new result }
         ensures staged { KeepsStaged stages self.old self.new }
         ensures sure { OnErr result has_store };
 
@@ -138,7 +153,7 @@ pub trait Keeper {
         ensures value { Answers means is_honest self.old self.new result
             (λ s n. n ≡ length s.receipts + 1) }
         ensures rest { Stays means is_honest is_open faults leaves leaves_whole has_store
-            self.old self.new result }
+            is_alone gathers self.old self.new result }
         ensures staged { KeepsStaged stages self.old self.new }
         ensures sure { OnErr result has_store };
 
@@ -147,13 +162,13 @@ pub trait Keeper {
         ensures value { Answers means is_honest self.old self.new result
             (λ s rs. map numbered_receipt rs.items ≡ receipts_from s from most) }
         ensures rest { Stays means is_honest is_open faults leaves leaves_whole has_store
-            self.old self.new result }
+            is_alone gathers self.old self.new result }
         ensures staged { KeepsStaged stages self.old self.new };
 
     /// Begins staging, with no bytes staged. Takes no memory.
     fn stage_begin(&mut self) -> Result<(), KeepFault>
         ensures rest { Stays means is_honest is_open faults leaves leaves_whole has_store
-            self.old self.new result }
+            is_alone gathers self.old self.new result }
         ensures empty { OnOk result (stages self.new []) }
         ensures sure { OnErr result has_store };
 
@@ -162,7 +177,7 @@ pub trait Keeper {
         requires some { 1 ≤ length bytes.now }
         requires short { length bytes.now ≤ 65536 }
         ensures rest { Stays means is_honest is_open faults leaves leaves_whole has_store
-            self.old self.new result }
+            is_alone gathers self.old self.new result }
         ensures added { (staged : List ℕ) → stages self.old staged
             → OnOk result (stages self.new (staged ++ bytes.now)) };
 
@@ -172,33 +187,37 @@ pub trait Keeper {
             → Answers means is_honest self.old self.new result
             (λ s b. IsTrue b ↔ HasBytes s (record { box = in_box.now; name = name.now }) staged) }
         ensures rest { Stays means is_honest is_open faults leaves leaves_whole has_store
-            self.old self.new result }
+            is_alone gathers self.old self.new result }
         ensures staged { OnOk result (KeepsStaged stages self.old self.new) };
 
     /// Moves the staged bytes out. Then no bytes are staged. Takes no memory.
     fn stage_take(&mut self) -> Vec<u8>
         ensures sure { StaysSure means is_honest is_open faults leaves leaves_whole self.old self.new }
+        ensures group { KeepsGroup is_alone gathers self.old self.new }
         ensures bytes { (staged : List ℕ) → stages self.old staged → result.items ≡ staged }
         ensures empty { stages self.new [] };
 
     /// Moves these bytes in, in the place of the staged bytes. Takes no memory.
     fn stage_put(&mut self, bytes: Vec<u8>)
         ensures sure { StaysSure means is_honest is_open faults leaves leaves_whole self.old self.new }
+        ensures group { KeepsGroup is_alone gathers self.old self.new }
         ensures staged { stages self.new bytes.items };
 
     /// Drops the staged bytes. Takes no memory.
     fn stage_drop(&mut self) -> Result<(), KeepFault>
         ensures rest { Stays means is_honest is_open faults leaves leaves_whole has_store
-            self.old self.new result }
+            is_alone gathers self.old self.new result }
         ensures empty { OnOk result (stages self.new []) }
         ensures sure { OnErr result has_store };
 
-    /// Makes a change that the rules allow in the state, completely or not at all. A file is set to the staged bytes, and
+    /// Makes a change that the rules allow in the state, completely or not at all. Outside a group it is kept when the call
+    /// returns `Ok`. A file is set to the staged bytes, and
     /// then nothing is staged; both are one change. If the office has its greatest number of receipts and the change would
     /// add one, no change is made: the error is `Full` or the store's own. Otherwise `Full` is never returned.
     fn apply(&mut self, change: &Change<'_>) -> Result<(), KeepFault>
         ensures made { (s after : State) → means self.old s → IsSound s
             → IsChangeOf (stages self.old) s change.now after → OnOk result (means self.new after) }
+        ensures group { KeepsGroup is_alone gathers self.old self.new }
         ensures emptied { TakesStaged change.now → OnOk result (stages self.new []) }
         ensures staged { (TakesStaged change.now → ⊥)
             → OnOk result (KeepsStaged stages self.old self.new) }
@@ -222,6 +241,21 @@ pub trait Keeper {
             → IsChangeOf (stages self.old) s change.now after → is_honest self.new
             → OnErr result (LeavesEither leaves leaves_whole self.old self.new s after) };
 
+    /// Begins a group. In a group nothing is done. Takes no memory.
+    fn gather(&mut self)
+        ensures sure { StaysSure means is_honest is_open faults leaves leaves_whole self.old self.new }
+        ensures staged { KeepsStaged stages self.old self.new }
+        ensures begun { is_alone self.old → gathers self.old self.new }
+        ensures group { (first : Self) → gathers first self.old → gathers first self.new };
+
+    /// Ends the group. Its changes are kept when the call returns `Ok`. After an error the state is the one when the group began;
+    /// a crash may still leave all of the group, until a later change is kept. A call that failed within the group may have
+    /// undone it; then this fails. Outside a group nothing is done. What is staged stays so.
+    fn settle(&mut self) -> Result<(), KeepFault>
+        ensures settles { Settles means is_honest is_open faults leaves leaves_whole has_store
+            is_alone gathers self.old self.new result }
+        ensures staged { KeepsStaged stages self.old self.new };
+
     /// An honest keeper that is open means at most one state.
     ghost one: { (k : Self) (s t : State) → is_honest k → is_open k → means k s → means k t
         → s ≡ t };
@@ -232,4 +266,11 @@ pub trait Keeper {
 
     /// A keeper without a store is honest and open at all times.
     ghost always: { (has_store → ⊥) → (k : Self) → is_honest k × is_open k };
+
+    /// Outside a group `rests` is `leaves`.
+    ghost settled: { (k : Self) → is_alone k → RestsSettled leaves leaves_whole rests rests_whole k };
+
+    /// A crash within a group loses all of its changes. A keeper without a store leaves nothing at a crash.
+    ghost lost: { has_store → (first k : Self) (s : State) → gathers first k → is_honest k → means first s
+        → LosesGroup leaves leaves_whole rests rests_whole first k s };
 }

@@ -13,7 +13,7 @@ pub trait Rolls: Keeper {
         ensures value { Answers Self.means Self.is_honest self.old self.new result
             (λ s found. IsNext bytes_cmp (IsKey s) after.now (text_in found)) }
         ensures rest { Stays Self.means Self.is_honest Self.is_open Self.faults Self.leaves
-            Self.leaves_whole Self.has_store self.old self.new result }
+            Self.leaves_whole Self.has_store Self.is_alone Self.gathers self.old self.new result }
         ensures staged { KeepsStaged Self.stages self.old self.new };
 
     /// The name of the first box after this text.
@@ -21,7 +21,7 @@ pub trait Rolls: Keeper {
         ensures value { Answers Self.means Self.is_honest self.old self.new result
             (λ s found. IsNext bytes_cmp (IsBox s) after.now (text_in found)) }
         ensures rest { Stays Self.means Self.is_honest Self.is_open Self.faults Self.leaves
-            Self.leaves_whole Self.has_store self.old self.new result }
+            Self.leaves_whole Self.has_store Self.is_alone Self.gathers self.old self.new result }
         ensures staged { KeepsStaged Self.stages self.old self.new };
 
     /// The name of the first file in this box after this text.
@@ -29,7 +29,7 @@ pub trait Rolls: Keeper {
         ensures value { Answers Self.means Self.is_honest self.old self.new result
             (λ s found. IsNext bytes_cmp (IsFileIn s in_box.now) after.now (text_in found)) }
         ensures rest { Stays Self.means Self.is_honest Self.is_open Self.faults Self.leaves
-            Self.leaves_whole Self.has_store self.old self.new result }
+            Self.leaves_whole Self.has_store Self.is_alone Self.gathers self.old self.new result }
         ensures staged { KeepsStaged Self.stages self.old self.new };
 
     /// The name of the first box after this text, among those that the key of this id is limited to.
@@ -37,6 +37,6 @@ pub trait Rolls: Keeper {
         ensures value { Answers Self.means Self.is_honest self.old self.new result
             (λ s found. IsNext bytes_cmp (IsLimit s id.now) after.now (text_in found)) }
         ensures rest { Stays Self.means Self.is_honest Self.is_open Self.faults Self.leaves
-            Self.leaves_whole Self.has_store self.old self.new result }
+            Self.leaves_whole Self.has_store Self.is_alone Self.gathers self.old self.new result }
         ensures staged { KeepsStaged Self.stages self.old self.new };
 }

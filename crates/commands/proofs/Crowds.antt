@@ -23,10 +23,11 @@ use Rattle.commands.proofs.Landing.{looks, more, surviving, surviving_whole, thr
 pub many_pass : {C K S E : Type 0} {gives : C → ℕ → C → Type 0} {told told' : List (Event S E) → Type 0} {are_ends : S → E → E → Type 0}
     {remaining : Gathered E → Option (List ℕ)} {contents : Outbox E → Option (List ℕ)} {clock clock' : C} {k : Ghosts K} {old new : K}
     {connections most : ℕ} {slots : List (Option (Seat (Gathered E) (Outbox E)))} {outcome : Outcome}
-    → (k.is_honest new → k.is_honest old) → ServesMany gives told told' are_ends remaining contents clock clock' k old new connections most slots outcome
+    → (k.is_honest new → k.is_honest old) → (k.is_alone old → k.is_alone new) → ServesMany gives told told' are_ends remaining contents clock clock' k old new connections most slots outcome
     → Passes k old new (ServesFrom gives told told' are_ends remaining contents clock clock' connections most slots outcome)
-many_pass honest many = record {
+many_pass honest ungrouped many = record {
   honest = honest;
+  ungrouped = ungrouped;
   lands = λ s kept alone.
       let (after, left, crowd) = many.serves s kept in
       record {
@@ -67,7 +68,7 @@ many_pass honest many = record {
 
 module _ {N C K L S E : Type 0} {listens : SocketAddrV4 → L → Type 0} {begins : C → Type 0} {gives : C → ℕ → C → Type 0} {told : L → List (Event S E) → Type 0} {are_ends : S → E → E → Type 0}
     {remaining : Gathered E → Option (List ℕ)} {contents : Outbox E → Option (List ℕ)} {k : Ghosts K} {old new : K} (address : SocketAddrV4) (limits : Limits) (Done : Type 0) (outside : N)
-    (last : Served L E) (first : L) (begun end : C) (listened : listens address first) (began : begins begun) (honest : k.is_honest new → k.is_honest old) where
+    (last : Served L E) (first : L) (begun end : C) (listened : listens address first) (began : begins begun) (honest : k.is_honest new → k.is_honest old) (ungrouped : k.is_alone old → k.is_alone new) where
   session_by : (r : Result Outcome Error) → last.outcome ≡ r
       → IfOk r (ServesMany gives (told first) (told last.listener) are_ends remaining contents begun end k old new limits.connections (at_least_one limits.«open») last.slots.items)
       → ((e : Error) → r ≡ Err e → (last.listener ≡ first) × (new ≡ old) × (end ≡ begun)) → (Done → IsOkAnd r IsFine)
@@ -86,7 +87,7 @@ module _ {N C K L S E : Type 0} {listens : SocketAddrV4 → L → Type 0} {begin
         serves = it;
         fine = fine;
       }))
-      (many_pass honest many)
+      (many_pass honest ungrouped many)
   session_by (Err e) same many nothing fine =
       let (back, kept, still) = nothing e refl in
       unasked kept (λ s. inr (looks s, fine, (subst (listens address) (sym back) listened, subst begins (sym still) began, (e, same))))

@@ -53,10 +53,11 @@ pub is_left : (asked : Asked) {s t : State} → t ≡ s → IsLeftBy asked s t
 is_left asked same = record { left = inl same; lasts = λ none. same }
 
 -- a keeper of which a crash leaves nothing new
-pub stood : {K : Type 0} {k : Ghosts K} {old new : K} {Step : State → State → Asked → Type 0} → (k.is_honest new → k.is_honest old) → ((s : State) → k.means old s → k.means new s)
+pub stood : {K : Type 0} {k : Ghosts K} {old new : K} {Step : State → State → Asked → Type 0} → (k.is_honest new → k.is_honest old) → (k.is_alone old → k.is_alone new) → ((s : State) → k.means old s → k.means new s)
     → ((s : State) → k.means old s → k.is_honest new → AddsStanding k old new s) → ((s : State) → WasKept k old new s → Step s s nothing) → Passes k old new Step
-stood honest same adds step = record {
+stood honest ungrouped same adds step = record {
   honest = honest;
+  ungrouped = ungrouped;
   lands = λ s kept alone. record {
     after = s;
     asked = nothing;
@@ -70,7 +71,7 @@ stood honest same adds step = record {
 -- a keeper that was only asked
 pub looked : {K T : Type 0} {k : Ghosts K} {old new : K} {Step : State → State → Asked → Type 0} (r : Result T KeepFault) → StaysBy k old new r
     → ((s : State) → WasKept k old new s → Step s s nothing) → Passes k old new Step
-looked r stays step = stood stays.honest stays.same (λ s means honest. record { adds = λ t left. stays.crash s t means honest left; whole = stays.whole s means honest }) step
+looked r stays step = stood stays.honest stays.group.alone stays.same (λ s means honest. record { adds = λ t left. stays.crash s t means honest left; whole = stays.whole s means honest }) step
 
 pub looks : (s : State) → Looks s s nothing
 looks s = record { same = refl; none = refl }
@@ -79,6 +80,7 @@ looks s = record { same = refl; none = refl }
 pub unasked : {K : Type 0} {k : Ghosts K} {old new : K} {Step : State → State → Asked → Type 0} → new ≡ old → ((s : State) → Step s s nothing) → Passes k old new Step
 unasked {k = k} {old = old} {new = new} same step = record {
   honest = subst k.is_honest same;
+  ungrouped = subst k.is_alone (sym same);
   lands = λ s kept alone. record {
     after = s;
     asked = nothing;
@@ -94,15 +96,19 @@ pub more : {K : Type 0} {k : Ghosts K} {old new : K} {Step Next : State → Stat
     → ((s after : State) (asked : Asked) → Step s after asked → Next s after asked) → Passes k old new Step → Passes k old new Next
 more further it = record {
   honest = it.honest;
+  ungrouped = it.ungrouped;
   lands = λ s kept alone.
       let to = it.lands s kept alone in
       record { after = to.after; asked = to.asked; left = to.left; step = further s to.after to.asked to.step; crash = to.crash; whole = to.whole };
 }
 
--- Around a keeper k there is a keeper l. It means what k means, and shows what k shows, before and after.
+-- Around a keeper k there is a keeper l. It means what k means, and shows what k shows, before and after. If k is in no group
+-- before, neither is l. If l is in none after, neither is k.
 pub record Wraps {K L : Type 0} (k : Ghosts K) (l : Ghosts L) (old new : K) (outer outer' : L) : Type 0 where
   pub honest : k.is_honest new → l.is_honest outer'
   pub before : l.is_honest outer → k.is_honest old
+  pub ungrouped : k.is_alone old → l.is_alone outer
+  pub ungrouped_too : l.is_alone outer' → k.is_alone new
   pub means : (s : State) → k.means old s → l.is_honest outer' → l.means outer s
   pub within : (s : State) → l.means outer' s → k.means new s
   pub alone : (s : State) → k.means old s → l.is_honest outer → StandsAlone k old s → StandsAlone l outer s
@@ -113,6 +119,7 @@ pub within : {K L : Type 0} {k : Ghosts K} {l : Ghosts L} {old new : K} {outer o
     → Wraps k l old new outer outer' → Passes l outer outer' Step → Passes k old new Step
 within wraps it = record {
   honest = λ clean. wraps.before (it.honest (wraps.honest clean));
+  ungrouped = λ alone. wraps.ungrouped_too (it.ungrouped (wraps.ungrouped alone));
   lands = λ s kept alone.
       let clean = wraps.honest kept.is_honest in
       let to = it.lands s (record { means = wraps.means s kept.means clean; is_honest = clean; sound = kept.sound }) (wraps.alone s kept.means (it.honest clean) alone) in

@@ -32,11 +32,12 @@ given (Some text) so s after asked (inl done) = inl done
 given (Some text) so s after asked (inr (is, same, fails)) = inr (is, same, λ next. fails (so next))
 
 -- a line was given to an office
-pub told : {T K : Type 0} (k : Ghosts K) (old new : K) (line : List ℕ) (r : Result T DeskFault) {Done : Type 0} → (k.is_honest new → k.is_honest old)
+pub told : {T K : Type 0} (k : Ghosts K) (old new : K) (line : List ℕ) (r : Result T DeskFault) {Done : Type 0} → (k.is_honest new → k.is_honest old) → (k.is_alone old → k.is_alone new)
     → ((s : State) → WasKept k old new s → IsObeyedBy (Endures k old new s) s line r) → ((s : State) → k.means old s → OnErr r (k.means new s))
     → ((s : State) → WasKept k old new s → UndoneLasts k old new s (IsToldBy s line) r) → OnErr r (Done → ⊥) → Passes k old new (IsGiven (Some line) Done)
-told k old new line (Ok x) honest obeys same crash fails = record {
+told k old new line (Ok x) honest ungrouped obeys same crash fails = record {
   honest = honest;
+  ungrouped = ungrouped;
   lands = λ s kept alone.
       let (command, after, is, obeyed, left) = obeys s kept in
       record {
@@ -48,8 +49,9 @@ told k old new line (Ok x) honest obeys same crash fails = record {
         whole = lasting_whole alone left.means.lasts;
       };
 }
-told {T = T} k old new line (Err e) honest obeys same crash fails = record {
+told {T = T} k old new line (Err e) honest ungrouped obeys same crash fails = record {
   honest = honest;
+  ungrouped = ungrouped;
   lands = λ s kept alone. record {
     after = s;
     asked = asking.line line;

@@ -61,12 +61,13 @@ module _ {W K : Type 0} (k : Ghosts K) (old new : K) (s after : State) (contents
 
 -- the turns of a replay, and its output as it is handed back
 pub replayed : {W K : Type 0} {k : Ghosts K} {old new : K} (contents : W → Option (List ℕ)) (first last : W) (back : Option W) (moment : ℕ) (Done : Type 0) (served : Result ℕ (Bor (List ℕ))) (streams : List (Bor (List ℕ)))
-    → (k.is_honest new → k.is_honest old)
+    → (k.is_honest new → k.is_honest old) → (k.is_alone old → k.is_alone new)
     → ((s : State) → WasKept k old new s → (after : State) × IsLeft (k.means new) after × TakesTurns (InTurnOver k old new (contents first) (contents last) s after moment) streams served)
     → ((out : W) × (back ≡ Some out) × Keeps (contents last) (contents out)) → (Done → served ≡ Ok 0)
     → Passes k old new (ReplaysAll contents (length streams) moment Done first back)
-replayed {k = k} {old = old} {new = new} contents first last back moment Done served streams honest turns (out, is_back, keeps) whole = record {
+replayed {k = k} {old = old} {new = new} contents first last back moment Done served streams honest ungrouped turns (out, is_back, keeps) whole = record {
   honest = honest;
+  ungrouped = ungrouped;
   lands = λ s kept alone.
       let (after, left, takes) = turns s kept in
       turned k old new s after contents first last out back moment (length streams) Done alone left is_back keeps served streams refl takes whole;

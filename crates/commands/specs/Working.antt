@@ -20,7 +20,9 @@ pub record Lands {K : Type 0} (k : Ghosts K) (new : K) (s : State) (Step : State
   pub crash : (t : State) → k.leaves new t → IsLeftBy asked after t
   pub whole : k.leaves_whole new
 
--- From each sound state that the keeper meant, and that a crash left alone, it lands, if it is honest.
+-- From each sound state that the keeper meant, and that a crash left alone, it lands, if it is honest. It is in no group if it
+-- was in none.
 pub record Passes {K : Type 0} (k : Ghosts K) (old new : K) (Step : State → State → Asked → Type 0) : Type 0 where
   pub honest : k.is_honest new → k.is_honest old
+  pub ungrouped : k.is_alone old → k.is_alone new
   pub lands : (s : State) → WasKept k old new s → StandsAlone k old s → Lands k new s Step

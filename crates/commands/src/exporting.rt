@@ -1,4 +1,5 @@
 //! `drop export`: writes the files of an office to a folder.
+ghost use Rattle.boxes.specs.Keeping.{KeepsGroup};
 ghost use Rattle.boxes.specs.State.{State};
 ghost use Rattle.office.specs.Crashes.{AddsStanding};
 
@@ -69,6 +70,7 @@ fn export_into<K: Rolls, R: Files>(
 ) -> Result<(), ExportFault>
     ensures same { (s : State) → K.Keeper.means keeper.old s → K.Keeper.means keeper.new s }
     ensures honest { K.Keeper.is_honest keeper.new → K.Keeper.is_honest keeper.old }
+    ensures group { KeepsGroup K.Keeper.is_alone K.Keeper.gathers keeper.old keeper.new }
     ensures crash { (s : State) → K.Keeper.means keeper.old s → K.Keeper.is_honest keeper.new
         → AddsStanding K.Keeper keeper.old keeper.new s }
 {

@@ -1,5 +1,6 @@
 //! `drop serve --manifest`: publishes the manifest in a file while the office is served.
 ghost use Rattle.std.specs.Prelude.{◌≡◌, None, IsOk, IsTrue};
+ghost use Rattle.boxes.specs.State.{State};
 ghost use Rattle.commands.specs.Serving.{MayServe};
 ghost use Rattle.commands.specs.Working.{Passes};
 
@@ -127,7 +128,11 @@ fn unless_placed<K: Keeper, S: Sheet + Drop, E: Write + Drop>(
     mut publisher: Publisher<K, S, E>,
     is_placed: bool,
 ) -> Publisher<K, S, E>
-    ensures { result.keeper ≡ publisher.keeper }
+    ensures keeper { result.keeper ≡ publisher.keeper }
+    ensures means { (s : State) → ⟦<Publisher<K, S, E> as Keeper>⟧.means publisher s
+        → ⟦<Publisher<K, S, E> as Keeper>⟧.means result s }
+    ensures alone { ⟦<Publisher<K, S, E> as Keeper>⟧.is_alone publisher
+        → ⟦<Publisher<K, S, E> as Keeper>⟧.is_alone result }
 {
     if publisher.is_whole() && !is_placed {
         publisher.give_up();

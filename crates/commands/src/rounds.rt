@@ -72,6 +72,7 @@ pub fn serve<K: Keeper, C: Clock, L: Listener, R: time::Clock>(
     ensures nothing { IfErr result.outcome (λ e. (result.listener ≡ listener)
         × (office.new ≡ office.old) × (clock.new ≡ clock.old)) }
     ensures honest { K.is_honest office.new.keeper → K.is_honest office.old.keeper }
+    ensures alone { K.is_alone office.old.keeper → K.is_alone office.new.keeper }
     ensures unstaged { StaysUnstaged K.Keeper office.old.keeper office.new.keeper }
     ensures never_less { K.faults office.old.keeper ≤ K.faults office.new.keeper }
 {
@@ -124,6 +125,7 @@ fn serve_through<K: Keeper, C: Clock, L: Listener, R: time::Clock, S: Start<L::S
         ⟦<Outbox<L::End> as Write>⟧.contents clock.old clock.new
         K.Keeper office.old.keeper office.new.keeper connections most slots.new result.1 }
     ensures honest { K.is_honest office.new.keeper → K.is_honest office.old.keeper }
+    ensures alone { K.is_alone office.old.keeper → K.is_alone office.new.keeper }
     ensures unstaged { StaysUnstaged K.Keeper office.old.keeper office.new.keeper }
     ensures never_less { K.faults office.old.keeper ≤ K.faults office.new.keeper }
 {

@@ -1,6 +1,7 @@
 -- A manifest that is begun stays a beginning.
 use Rattle.std.proofs.Common.{◌≡◌, ◌∙◌, ℕ, List, [], ◌∷◌, ◌++◌, ◌⊎◌, inl, inr, Option, None, Some, Result, Err, refl, sym, ap, subst, append_assoc, append-nil}
-use Rattle.std.specs.Prelude.{⊤}
+use Rattle.std.specs.Prelude.{Vec, ⊤}
+use Rattle.std.specs.declared.alloc.Global.{Global}
 use Rattle.sigtext.specs.Bytes.{IsBeginning}
 use Rattle.boxes.specs.State.{Receipt, State}
 use Rattle.boxes.specs.Rows.{numbered}
@@ -10,7 +11,7 @@ use Rattle.shelf.specs.Shelves.{set_receipt}
 use Rattle.lists.specs.Lists.{line, AreLines, IsTable}
 use Rattle.lists.specs.Manifests.{manifest_head, IsReceiptLine}
 use Rattle.lists.proofs.AnsweredLists.{none_table}
-use Rattle.lists.specs.Published.{Adds, AddsAll, IsBegun, IsBlank, IsPublished}
+use Rattle.lists.specs.Published.{Adds, AddsAll, IsBegun, IsBlank, IsPublished, with_held}
 use Rattle.lists.proofs.Added.{published_with, receipts_with}
 
 -- at least a beginning of the bytes was appended
@@ -66,19 +67,25 @@ begun_grown s after (Some text) more grown begun = record {
   sent = begun.sent;
 }
 
+-- the text that makes the manifest whole was added, perhaps in part
+pub begun_added : (s : State) (before bytes : List ℕ) (new : Option (List ℕ)) → IsPublished s (Some (before ++ bytes)) → Adds {T = ⊤} {E = ⊤} bytes (Some before) new (Err tt) → IsBegun s new
+begun_added s before bytes new published (now, is, added) =
+    let rest = added.is_front.rest in
+    let joined = ap (λ t. before ++ t) added.is_front.joined ∙ sym (append_assoc before added.front rest) ∙ ap (λ t. t ++ rest) (sym added.is) in
+    subst (IsBegun s) (sym is) (begun_front s (before ++ bytes) now published (record { rest = rest; joined = joined }))
+
 -- a file was set, and its line was added, perhaps in part
 begun_with : (s after : State) (f : NewFile) (bytes text : List ℕ) (old new : Option (List ℕ)) → IsFileSet s f bytes after → IsPublished s old
     → AreLines IsReceiptLine (set_receipt f ∷ []) text → Adds {T = ⊤} {E = ⊤} text old new (Err tt) → IsBegun after new
 begun_with s after f bytes text None new set published lines added = subst (IsBegun after) (sym added) tt
-begun_with s after f bytes text (Some before) new set published lines (now, is, added) =
-    let manifest = published_with s after f bytes text (Some before) (Some (before ++ text)) set published lines refl in
-    let rest = added.is_front.rest in
-    let joined = ap (λ t. before ++ t) added.is_front.joined ∙ sym (append_assoc before added.front rest) ∙ ap (λ t. t ++ rest) (sym added.is) in
-    subst (IsBegun after) (sym is) (begun_front after (before ++ text) now manifest (record { rest = rest; joined = joined }))
+begun_with s after f bytes text (Some before) new set published lines added =
+    begun_added after before text new (published_with s after f bytes text (Some before) (Some (before ++ text)) set published lines refl) added
 
--- a file was set, and its line was added, perhaps in part, to a whole manifest, or nothing was added
-pub begun_set : (s after : State) (f : NewFile) (bytes : List ℕ) (old new : Option (List ℕ)) (whole : Type 0) → IsFileSet s f bytes after → (whole → IsPublished s old) → IsBegun s old
-    → (new ≡ old) ⊎ ((text : List ℕ) × whole × AreLines IsReceiptLine (set_receipt f ∷ []) text × Adds {T = ⊤} {E = ⊤} text old new (Err tt)) → IsBegun after new
-begun_set s after f bytes old new whole set published begun (inl same) =
+-- A file was set. To a whole manifest its line was added, perhaps in part, if no lines are held; or nothing was added.
+pub begun_set : (s after : State) (f : NewFile) (bytes : List ℕ) (held : Option (Vec ℕ Global)) (old new : Option (List ℕ)) (whole : Type 0) → IsFileSet s f bytes after
+    → (whole → IsPublished s (with_held held old)) → IsBegun s old
+    → (new ≡ old) ⊎ ((text : List ℕ) × whole × AreLines IsReceiptLine (set_receipt f ∷ []) text × (held ≡ None) × Adds {T = ⊤} {E = ⊤} text old new (Err tt)) → IsBegun after new
+begun_set s after f bytes held old new whole set published begun (inl same) =
     subst (IsBegun after) (sym same) (begun_grown s after old (set_receipt f ∷ []) (receipts_with s after f bytes set) begun)
-begun_set s after f bytes old new whole set published begun (inr (text, is, lines, added)) = begun_with s after f bytes text old new set (published is) lines added
+begun_set s after f bytes held old new whole set published begun (inr (text, is, lines, none, added)) =
+    begun_with s after f bytes text old new set (subst (λ h. IsPublished s (with_held h old)) none (published is)) lines added

@@ -22,4 +22,6 @@ pub mod Paths
 pub mod OneName
 pub mod Added
 pub mod Begun
+pub mod Held
 pub mod PassedOn
+pub mod Settled

@@ -55,17 +55,17 @@ module _ {T : Type 0} where
   passed_write (Err y) e old mid new same n h = subst (λ m. CountsErrors {T = ⊤} {E = ⊤} m new (by_writer {T = T} (Err y))) n (subst (λ f. CountsErrors {T = ⊤} {E = ⊤} mid new (by_writer {T = T} (Err f))) (sym same) h)
 
 module _ {K T : Type 0} {means : K → State → Type 0} {is_honest is_open : K → Type 0} {faults : K → ℕ} {leaves : K → State → Type 0} {leaves_whole : K → Type 0}
-    {has_store : Type 0} where
+    {has_store : Type 0} {is_alone : K → Type 0} {gathers : K → K → Type 0} where
   -- the fault of a question
   pub passed_stays : (a b c : K) (r : Result T ListFault) (e : ListFault) → IsErrAnd r (λ f. f ≡ e)
-      → Stays {T = ⊤} means is_honest is_open faults leaves leaves_whole has_store a b (Ok tt) → Stays {T = ⊤} means is_honest is_open faults leaves leaves_whole has_store b c (by_keeper {T = T} (Err e))
-      → Stays {T = ⊤} means is_honest is_open faults leaves leaves_whole has_store a c (by_keeper r)
+      → Stays {T = ⊤} means is_honest is_open faults leaves leaves_whole has_store is_alone gathers a b (Ok tt) → Stays {T = ⊤} means is_honest is_open faults leaves leaves_whole has_store is_alone gathers b c (by_keeper {T = T} (Err e))
+      → Stays {T = ⊤} means is_honest is_open faults leaves leaves_whole has_store is_alone gathers a c (by_keeper r)
   passed_stays a b c (Ok x) e same p q = absurd same
-  passed_stays a b c (Err y) e same p q = subst (λ f. Stays {T = ⊤} means is_honest is_open faults leaves leaves_whole has_store a c (by_keeper {T = T} (Err f))) (sym same) (stays_joined a b c _ p q)
+  passed_stays a b c (Err y) e same p q = subst (λ f. Stays {T = ⊤} means is_honest is_open faults leaves leaves_whole has_store is_alone gathers a c (by_keeper {T = T} (Err f))) (sym same) (stays_joined a b c _ p q)
 
   -- another fault, after a question
   pub passed_other : (a b c : K) (r : Result T ListFault) (e other : ListFault) → IsErrAnd r (λ f. f ≡ e) → e ≡ other → by_keeper {T = T} (Err other) ≡ Ok tt
-      → Stays {T = ⊤} means is_honest is_open faults leaves leaves_whole has_store a b (Ok tt) → Stays {T = ⊤} means is_honest is_open faults leaves leaves_whole has_store b c (Ok tt)
-      → Stays {T = ⊤} means is_honest is_open faults leaves leaves_whole has_store a c (by_keeper r)
+      → Stays {T = ⊤} means is_honest is_open faults leaves leaves_whole has_store is_alone gathers a b (Ok tt) → Stays {T = ⊤} means is_honest is_open faults leaves leaves_whole has_store is_alone gathers b c (Ok tt)
+      → Stays {T = ⊤} means is_honest is_open faults leaves leaves_whole has_store is_alone gathers a c (by_keeper r)
   passed_other a b c (Ok x) e other same is none p q = absurd same
-  passed_other a b c (Err y) e other same is none p q = passed_stays a b c (Err y) other (same ∙ is) p (subst (λ s. Stays {T = ⊤} means is_honest is_open faults leaves leaves_whole has_store b c s) (sym none) q)
+  passed_other a b c (Err y) e other same is none p q = passed_stays a b c (Err y) other (same ∙ is) p (subst (λ s. Stays {T = ⊤} means is_honest is_open faults leaves leaves_whole has_store is_alone gathers b c s) (sym none) q)

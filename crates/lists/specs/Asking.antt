@@ -22,9 +22,9 @@ module _ {K : Type 0} (k : Ghosts K) where
 
 -- over the ghosts of a keeper that its calls name
 module _ {K : Type 0} {means : K → State → Type 0} {is_honest is_open : K → Type 0} {faults : K → ℕ} {leaves : K → State → Type 0} {leaves_whole : K → Type 0}
-    {has_store : Type 0} where
+    {has_store : Type 0} {is_alone : K → Type 0} {gathers : K → K → Type 0} where
   -- nothing was asked
-  pub stays_unasked : (a : K) → Stays {T = ⊤} means is_honest is_open faults leaves leaves_whole has_store a a (Ok tt)
+  pub stays_unasked : (a : K) → Stays {T = ⊤} means is_honest is_open faults leaves leaves_whole has_store is_alone gathers a a (Ok tt)
   stays_unasked a = record {
     same = λ s m. m;
     honest = λ h. h;
@@ -34,10 +34,11 @@ module _ {K : Type 0} {means : K → State → Type 0} {is_honest is_open : K �
     store = λ e. absurd (no_error tt Store e);
     crash = λ s t m h l. inl l;
     whole = λ s m h w. w;
+    group = record { alone = λ alone. alone; same = λ first in_group. in_group };
   }
 
   -- two questions in a row
-  pub stays_joined : {T : Type 0} (a b c : K) (r : Result T KeepFault) → Stays {T = ⊤} means is_honest is_open faults leaves leaves_whole has_store a b (Ok tt) → Stays means is_honest is_open faults leaves leaves_whole has_store b c r → Stays means is_honest is_open faults leaves leaves_whole has_store a c r
+  pub stays_joined : {T : Type 0} (a b c : K) (r : Result T KeepFault) → Stays {T = ⊤} means is_honest is_open faults leaves leaves_whole has_store is_alone gathers a b (Ok tt) → Stays means is_honest is_open faults leaves leaves_whole has_store is_alone gathers b c r → Stays means is_honest is_open faults leaves leaves_whole has_store is_alone gathers a c r
   stays_joined a b c r p q = record {
     same = λ s m. q.same s (p.same s m);
     honest = λ h. p.honest (q.honest h);
@@ -47,6 +48,7 @@ module _ {K : Type 0} {means : K → State → Type 0} {is_honest is_open : K �
     store = q.store;
     crash = λ s t m h l. from_either s t m h (q.crash s t (p.same s m) h l);
     whole = λ s m h w. q.whole s (p.same s m) h (p.whole s m (q.honest h) w);
+    group = record { alone = λ alone. q.group.alone (p.group.alone alone); same = λ first in_group. q.group.same first (p.group.same first in_group) };
   }
     where
       from_either : (s t : State) → means a s → is_honest c → leaves b t ⊎ (t ≡ s) → leaves a t ⊎ (t ≡ s)
@@ -54,7 +56,7 @@ module _ {K : Type 0} {means : K → State → Type 0} {is_honest is_open : K �
       from_either s t m h (inr e) = inr e
 
   -- whatever the answer was
-  pub stays_ok : {T : Type 0} (a b : K) (x : T) → Stays means is_honest is_open faults leaves leaves_whole has_store a b (Ok x) → Stays {T = ⊤} means is_honest is_open faults leaves leaves_whole has_store a b (Ok tt)
+  pub stays_ok : {T : Type 0} (a b : K) (x : T) → Stays means is_honest is_open faults leaves leaves_whole has_store is_alone gathers a b (Ok x) → Stays {T = ⊤} means is_honest is_open faults leaves leaves_whole has_store is_alone gathers a b (Ok tt)
   stays_ok a b x p = record {
     same = p.same;
     honest = p.honest;
@@ -64,9 +66,10 @@ module _ {K : Type 0} {means : K → State → Type 0} {is_honest is_open : K �
     store = λ e. absurd (no_error tt Store e);
     crash = p.crash;
     whole = p.whole;
+    group = p.group;
   }
 
-  pub stays_err : {T : Type 0} (a b : K) (f : KeepFault) → Stays {T = T} means is_honest is_open faults leaves leaves_whole has_store a b (Err f) → Stays {T = ⊤} means is_honest is_open faults leaves leaves_whole has_store a b (Err f)
+  pub stays_err : {T : Type 0} (a b : K) (f : KeepFault) → Stays {T = T} means is_honest is_open faults leaves leaves_whole has_store is_alone gathers a b (Err f) → Stays {T = ⊤} means is_honest is_open faults leaves leaves_whole has_store is_alone gathers a b (Err f)
   stays_err {T} a b f p = record {
     same = p.same;
     honest = p.honest;
@@ -76,4 +79,5 @@ module _ {K : Type 0} {means : K → State → Type 0} {is_honest is_open : K �
     store = λ e. p.store (ap (λ (g : KeepFault). Err g) (same_error f Store e));
     crash = p.crash;
     whole = p.whole;
+    group = p.group;
   }

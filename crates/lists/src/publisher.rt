@@ -1,5 +1,5 @@
 //! A keeper that adds each receipt to a manifest.
-ghost use Rattle.std.specs.Prelude.{◌≡◌, ◌↔◌, ◌≤◌, ◌⊎◌, ℕ, List, [], ◌∷◌, Some, IfOk, IsFalse, IsTrue, false, ⊤, Result};
+ghost use Rattle.std.specs.Prelude.{◌≡◌, ◌↔◌, ◌≤◌, ◌⊎◌, ℕ, List, [], ◌∷◌, Some, None, IfOk, IsFalse, IsSome, IsTrue, false, ⊤, Result};
 ghost use Rattle.boxes.specs.Changes.{MayChange};
 ghost use Rattle.boxes.specs.Rows.{numbered_receipt};
 ghost use Rattle.boxes.specs.Sound.{IsMoment, IsSound};
@@ -10,7 +10,7 @@ ghost use Rattle.shelf.specs.Shelves.{set_receipt};
 ghost use Rattle.boxes.specs.declared.keep.KeepFault.{KeepFault};
 ghost use Rattle.lists.specs.Lists.{by_keeper, AreLines};
 ghost use Rattle.lists.specs.Manifests.{IsReceiptLine};
-ghost use Rattle.lists.specs.Published.{Adds, AddsAll, IsBegun, IsBlank, IsPublished};
+ghost use Rattle.lists.specs.Published.{Adds, AddsAll, HoldsNoLine, IsBegun, IsBlank, IsPublished, with_held};
 
 use crate::list_fault::ListFault;
 use crate::manifests::{manifest, receipts_text};
@@ -20,15 +20,17 @@ use std::alloc::{AllocError, Global};
 use std::io::Write;
 use wire::Counted;
 
-/// Passes each call on to a keeper, and adds the receipt of each upload to a manifest on a sheet. If that fails, one line on
-/// `err` says so, and the keeper goes on without the manifest.
+/// Passes each call on to a keeper, and adds the receipt of each upload to a manifest on a sheet. The receipts of a group are
+/// added when it is settled. If the sheet fails, one line on `err` says so, and the keeper goes on without the manifest.
 #[derive(Drop)]
 pub struct Publisher<K, S: Drop, E: Drop> {
     pub(crate) keeper: K,
     pub(crate) sheet: S,
     pub(crate) err: E,
-    // Whether the manifest on the sheet is complete so far.
+    // Whether the manifest is complete so far: on the sheet, and in what is held.
     pub(crate) is_whole: bool,
+    // The lines of the group's receipts, which are not on the sheet yet. None outside a group.
+    pub(crate) held: Option<Vec<u8>>,
     pub(crate) alloc: Global,
 }
 
@@ -55,6 +57,11 @@ impl<K: Keeper, S: Sheet + Drop, E: Write + Drop> Publisher<K, S, E> {
             ↔ K.leaves result.keeper t) }
         ensures whole { ⟦<Publisher<K, S, E> as Keeper>⟧.leaves_whole result
             ↔ K.leaves_whole result.keeper }
+        ensures rests { (t : State) → (⟦<Publisher<K, S, E> as Keeper>⟧.rests result t
+            ↔ K.rests result.keeper t) }
+        ensures rests_whole { ⟦<Publisher<K, S, E> as Keeper>⟧.rests_whole result
+            ↔ K.rests_whole result.keeper }
+        ensures alone { K.is_alone keeper → ⟦<Publisher<K, S, E> as Keeper>⟧.is_alone result }
     {
         let text = manifest_text(alloc, &mut keeper);
         let mut publisher = Publisher {
@@ -62,6 +69,7 @@ impl<K: Keeper, S: Sheet + Drop, E: Write + Drop> Publisher<K, S, E> {
             sheet,
             err,
             is_whole: true,
+            held: None,
             alloc,
         };
         match text {
@@ -71,16 +79,20 @@ impl<K: Keeper, S: Sheet + Drop, E: Write + Drop> Publisher<K, S, E> {
         publisher
     }
 
-    /// Gives the inner keeper back.
+    /// Gives the inner keeper back. It is in no group if the publisher is in none.
     pub fn into_inner(self) -> K
-        ensures { result ≡ self.keeper }
+        ensures same { result ≡ self.keeper }
+        ensures alone { ⟦<Publisher<K, S, E> as Keeper>⟧.is_alone self → K.is_alone result }
+        ensures rests { (t : State) → (⟦<Publisher<K, S, E> as Keeper>⟧.rests self t ↔ K.rests result t) }
+        ensures rests_whole { ⟦<Publisher<K, S, E> as Keeper>⟧.rests_whole self ↔ K.rests_whole result }
     {
         self.keeper
     }
 
-    /// Whether the sheet holds the manifest of the keeper's office. If not, it holds a beginning of it.
+    /// Whether the sheet holds the manifest of the keeper's office, and no line of a group is held back. If not, it holds a
+    /// beginning of it.
     pub fn is_whole(&self) -> bool
-        ensures whole { result ≡ self.now.is_whole }
+        ensures whole { IsTrue result ↔ (IsTrue self.now.is_whole × HoldsNoLine self.now.held) }
         ensures published { (s : State)
             → ⟦<Publisher<K, S, E> as Keeper>⟧.means self.now s → IsSound s
             → ⟦<Publisher<K, S, E> as Keeper>⟧.is_honest self.now → IsTrue result
@@ -90,12 +102,23 @@ impl<K: Keeper, S: Sheet + Drop, E: Write + Drop> Publisher<K, S, E> {
             → ⟦<Publisher<K, S, E> as Keeper>⟧.is_honest self.now
             → IsBegun s (S.text self.now.sheet) }
     {
-        self.is_whole
+        self.is_whole && self.holds_no_line()
+    }
+
+    // Whether no line is held.
+    fn holds_no_line(&self) -> bool
+        ensures { IsTrue result ↔ HoldsNoLine self.now.held }
+    {
+        match &self.held {
+            Some(held) => held.is_empty(),
+            None => true,
+        }
     }
 
     /// Gives the manifest up and says so on `err`. No more lines are added.
     pub fn give_up(&mut self)
         ensures sheet { self.new.sheet ≡ self.old.sheet }
+        ensures held { self.new.held ≡ self.old.held }
         ensures none { self.new.is_whole ≡ false }
         ensures keeper { self.new.keeper ≡ self.old.keeper }
         ensures means { (s : State) → ⟦<Publisher<K, S, E> as Keeper>⟧.means self.old s
@@ -108,6 +131,7 @@ impl<K: Keeper, S: Sheet + Drop, E: Write + Drop> Publisher<K, S, E> {
     // Adds a text to the sheet.
     fn put(&mut self, text: &[u8])
         ensures keeper { self.new.keeper ≡ self.old.keeper }
+        ensures held { self.new.held ≡ self.old.held }
         ensures whole { IsTrue self.new.is_whole → IsTrue self.old.is_whole }
         ensures added { IsTrue self.new.is_whole
             → AddsAll text.now (S.text self.old.sheet) (S.text self.new.sheet) }
@@ -119,16 +143,62 @@ impl<K: Keeper, S: Sheet + Drop, E: Write + Drop> Publisher<K, S, E> {
         }
     }
 
-    // Adds the line of the change's receipt, if the change made one.
+    // Adds a text to the sheet, or within a group to what is held.
+    fn put_or_hold(&mut self, text: &[u8])
+        ensures keeper { self.new.keeper ≡ self.old.keeper }
+        ensures whole { IsTrue self.new.is_whole → IsTrue self.old.is_whole }
+        ensures alone { (self.old.held ≡ None) → (self.new.held ≡ None) }
+        ensures group { IsSome self.old.held → IsSome self.new.held × (self.new.sheet ≡ self.old.sheet) }
+        ensures added { IsTrue self.new.is_whole
+            → AddsAll text.now (with_held self.old.held (S.text self.old.sheet))
+            (with_held self.new.held (S.text self.new.sheet)) }
+        ensures front { (S.text self.new.sheet ≡ S.text self.old.sheet) ⊎ ((self.old.held ≡ None)
+            × Adds {T = ⊤} {E = ⊤} text.now
+            (S.text self.old.sheet) (S.text self.new.sheet) (Err tt)) }
+    {
+        match &mut self.held {
+            Some(held) => {
+                if held.extend_from_slice(text).is_err() {
+                    self.give_up();
+                }
+            }
+            None => self.put(text),
+        }
+    }
+
+    // Adds what was held to the sheet, unless the manifest was given up.
+    pub(crate) fn put_held(&mut self, held: Option<Vec<u8>>)
+        ensures keeper { self.new.keeper ≡ self.old.keeper }
+        ensures held { self.new.held ≡ self.old.held }
+        ensures whole { IsTrue self.new.is_whole → IsTrue self.old.is_whole }
+        ensures published { (s : State) → IsPublished s (with_held held (S.text self.old.sheet))
+            → IsTrue self.new.is_whole → IsPublished s (S.text self.new.sheet) }
+        ensures begun { (s : State)
+            → (IsTrue self.old.is_whole → IsPublished s (with_held held (S.text self.old.sheet)))
+            → IsBegun s (S.text self.old.sheet) → IsBegun s (S.text self.new.sheet) }
+    {
+        let Some(text) = held else {
+            return;
+        };
+        if self.is_whole {
+            self.put(&text);
+        }
+    }
+
+    // Adds the line of the change's receipt, if the change made one. Within a group the line is held.
     pub(crate) fn note(&mut self, change: &Change<'_>)
         ensures keeper { self.new.keeper ≡ self.old.keeper }
         ensures whole { IsTrue self.new.is_whole → IsTrue self.old.is_whole }
+        ensures alone { (self.old.held ≡ None) → (self.new.held ≡ None) }
+        ensures group { IsSome self.old.held → IsSome self.new.held × (self.new.sheet ≡ self.old.sheet) }
         ensures idle { IsFalse self.old.is_whole → self.new.sheet ≡ self.old.sheet }
         ensures published { (s after : State) → MayChange s change.now after
-            → IsPublished s (S.text self.old.sheet) → IsTrue self.new.is_whole
-            → IsPublished after (S.text self.new.sheet) }
+            → IsPublished s (with_held self.old.held (S.text self.old.sheet))
+            → IsTrue self.new.is_whole
+            → IsPublished after (with_held self.new.held (S.text self.new.sheet)) }
         ensures begun { (s after : State) → MayChange s change.now after
-            → (IsTrue self.old.is_whole → IsPublished s (S.text self.old.sheet))
+            → (IsTrue self.old.is_whole
+            → IsPublished s (with_held self.old.held (S.text self.old.sheet)))
             → IsBegun s (S.text self.old.sheet) → IsBegun after (S.text self.new.sheet) }
     {
         match change {
@@ -137,24 +207,27 @@ impl<K: Keeper, S: Sheet + Drop, E: Write + Drop> Publisher<K, S, E> {
         }
     }
 
-    // Adds the line of a file's receipt.
+    // Adds the line of a file's receipt, or holds it.
     fn add(&mut self, file: &NewFile<'_>)
         ensures keeper { self.new.keeper ≡ self.old.keeper }
         ensures whole { IsTrue self.new.is_whole → IsTrue self.old.is_whole }
+        ensures alone { (self.old.held ≡ None) → (self.new.held ≡ None) }
+        ensures group { IsSome self.old.held → IsSome self.new.held × (self.new.sheet ≡ self.old.sheet) }
         ensures idle { IsFalse self.old.is_whole → self.new.sheet ≡ self.old.sheet }
         ensures added { IsMoment file.now.moment → IsTrue self.new.is_whole → (text : List ℕ)
             × AreLines IsReceiptLine (set_receipt file.now ∷ []) text
-            × AddsAll text (S.text self.old.sheet) (S.text self.new.sheet) }
+            × AddsAll text (with_held self.old.held (S.text self.old.sheet))
+            (with_held self.new.held (S.text self.new.sheet)) }
         ensures front { IsMoment file.now.moment → (S.text self.new.sheet ≡ S.text self.old.sheet)
             ⊎ ((text : List ℕ) × IsTrue self.old.is_whole
-            × AreLines IsReceiptLine (set_receipt file.now ∷ []) text
+            × AreLines IsReceiptLine (set_receipt file.now ∷ []) text × (self.old.held ≡ None)
             × Adds {T = ⊤} {E = ⊤} text (S.text self.old.sheet) (S.text self.new.sheet) (Err tt)) }
     {
         if !self.is_whole {
             return;
         }
         match receipt_text(self.alloc, file) {
-            Ok(text) => self.put(&text),
+            Ok(text) => self.put_or_hold(&text),
             Err(_) => self.give_up(),
         }
     }

@@ -1,7 +1,7 @@
 //! `Publisher` implements `Keeper`.
-ghost use Rattle.std.specs.Prelude.{IsTrue};
+ghost use Rattle.std.specs.Prelude.{◌≡◌, IsTrue, None};
 ghost use Rattle.boxes.specs.Sound.{IsSound};
-ghost use Rattle.lists.specs.Published.{IsBegun, IsPublished};
+ghost use Rattle.lists.specs.Published.{HoldsSince, IsBegun, IsPublished, with_held};
 
 use crate::publisher::Publisher;
 use crate::sheet::Sheet;
@@ -11,7 +11,7 @@ use std::io::Write;
 impl<K: Keeper, S: Sheet + Drop, E: Write + Drop> Keeper for Publisher<K, S, E> {
     ghost means = { λ p s. K.means p.keeper s
         × (K.is_honest p.keeper → IsSound s → IsBegun s (S.text p.sheet)
-        × (IsTrue p.is_whole → IsPublished s (S.text p.sheet))) };
+        × (IsTrue p.is_whole → IsPublished s (with_held p.held (S.text p.sheet)))) };
 
     ghost stages = { λ p bytes. K.stages p.keeper bytes };
 
@@ -24,6 +24,14 @@ impl<K: Keeper, S: Sheet + Drop, E: Write + Drop> Keeper for Publisher<K, S, E> 
     ghost leaves = { λ p s. K.leaves p.keeper s };
 
     ghost leaves_whole = { λ p. K.leaves_whole p.keeper };
+
+    ghost rests = { λ p s. K.rests p.keeper s };
+
+    ghost rests_whole = { λ p. K.rests_whole p.keeper };
+
+    ghost is_alone = { λ p. K.is_alone p.keeper × (p.held ≡ None) };
+
+    ghost gathers = { λ first p. HoldsSince K.Keeper first p };
 
     ghost has_store = { K.has_store };
 
@@ -107,9 +115,29 @@ impl<K: Keeper, S: Sheet + Drop, E: Write + Drop> Keeper for Publisher<K, S, E> 
         done
     }
 
+    fn gather(&mut self) {
+        self.keeper.gather();
+        if self.held.is_none() {
+            self.held = Some(Vec::new(self.alloc));
+        }
+    }
+
+    fn settle(&mut self) -> Result<(), KeepFault> {
+        let done = self.keeper.settle();
+        let held = self.held.take();
+        if done.is_ok() {
+            self.put_held(held);
+        }
+        done
+    }
+
     ghost one = { λ p s t honest opened a b. K.one p.keeper s t honest opened a.0 b.0 };
 
     ghost one_staged = { λ p a b honest opened x y. K.one_staged p.keeper a b honest opened x y };
 
     ghost always = { λ none p. K.always none p.keeper };
+
+    ghost settled = { λ p alone. let it = K.settled p.keeper alone.0 in record { same = it.same; whole = it.whole } };
+
+    ghost lost = { λ store first p s in_group honest meant. let it = K.lost store first.keeper p.keeper s in_group.inner honest meant.0 in record { either = it.either; whole = it.whole } };
 }

@@ -5,7 +5,7 @@ use Rattle.std.specs.Result.{is_err}
 use Rattle.sigtext.specs.Counts.{CountsErrors, Rose}
 use Rattle.sigtext.specs.declared.refusal.Refusal.{Refusal}
 use Rattle.boxes.specs.Bound.{StaysBy}
-use Rattle.boxes.specs.Keeping.{KeepsStaged}
+use Rattle.boxes.specs.Keeping.{KeepsGroup, KeepsStaged}
 use Rattle.boxes.specs.declared.keep.KeepFault.{KeepFault}
 use Rattle.boxes.specs.declared.keep.Keeper.{Ghosts}
 use Rattle.office.specs.Frames.{Looks, Quiet}
@@ -47,9 +47,9 @@ module _ {K : Type 0} {k : Ghosts K} where
 
   -- a change, whatever its result
   pub changed_holds : {T : Type 0} {a b : K} (result : Result T KeepFault) → (k.is_honest b → k.is_honest a) → (k.is_honest b → OnOk result (k.is_open b)) → CountsErrors (k.faults a) (k.faults b) result
-      → HoldsUnless k a b (IsFault result)
-  changed_holds (Ok x) honest opened count = record { honest = honest; opened = λ is was other. opened is; counted = λ other. count.ok; never_less = let same = count.ok in omega (arith, same) }
-  changed_holds {a = a} {b = b} (Err f) honest opened count = record { honest = honest; opened = λ is was other. absurd (other tt); counted = λ other. absurd (other tt); never_less = rose_least (k.faults a) (k.faults b) count.err }
+      → KeepsGroup k.is_alone k.gathers a b → HoldsUnless k a b (IsFault result)
+  changed_holds (Ok x) honest opened count group = record { honest = honest; opened = λ is was other. opened is; counted = λ other. count.ok; never_less = let same = count.ok in omega (arith, same); group = group }
+  changed_holds {a = a} {b = b} (Err f) honest opened count group = record { honest = honest; opened = λ is was other. absurd (other tt); counted = λ other. absurd (other tt); never_less = rose_least (k.faults a) (k.faults b) count.err; group = group }
 
   pub quiet_less : {a b : K} {gave_up more : Type 0} → (gave_up → more) → Quiet k a b gave_up → Quiet k a b more
   quiet_less less x = record { same = x.same; crash = x.crash; rest = holds_less less x.rest }

@@ -8,6 +8,7 @@ use Rattle.boxes.specs.declared.keep.KeepFault.TheVariants.{Store}
 use Rattle.boxes.specs.declared.keep.Keeper.{Ghosts}
 use Rattle.office.specs.Foreseeing.{AreStaged}
 use Rattle.office.specs.declared.requests.foreseeing.Body.{Body}
+use Rattle.office.proofs.Holding.{group_still, group_then}
 
 -- the same fault, of another question
 err_too : {T U : Type 0} {f : KeepFault} → IsErrOf {T = T} (Err f) Store → IsErrOf {T = U} (Err f) Store
@@ -23,11 +24,11 @@ still_staged at staged = record { staged = at; octets = staged.octets; short = s
 module _ {K : Type 0} (k : Ghosts K) where
   -- nothing was asked
   pub stays_still : {T : Type 0} {a : K} {x : T} → StaysBy k a a (Ok x)
-  stays_still = record { same = λ s means. means; honest = λ is. is; opened = λ is was. was; count = record { err = tt; ok = refl }; room = tt; store = λ is. absurd cc; crash = λ s t means is at. inl at; whole = λ s means is was. was }
+  stays_still = record { same = λ s means. means; honest = λ is. is; opened = λ is was. was; count = record { err = tt; ok = refl }; room = tt; store = λ is. absurd cc; crash = λ s t means is at. inl at; whole = λ s means is was. was; group = group_still }
 
   -- an answer, whatever is made of it
   pub stays_ok : {T U : Type 0} {a b : K} {x : T} {y : U} → StaysBy k a b (Ok x) → StaysBy k a b (Ok y)
-  stays_ok rest = record { same = rest.same; honest = rest.honest; opened = rest.opened; count = record { err = tt; ok = rest.count.ok }; room = tt; store = λ is. absurd cc; crash = rest.crash; whole = rest.whole }
+  stays_ok rest = record { same = rest.same; honest = rest.honest; opened = rest.opened; count = record { err = tt; ok = rest.count.ok }; room = tt; store = λ is. absurd cc; crash = rest.crash; whole = rest.whole; group = rest.group }
 
   -- a fault that is passed on, of another question
   pub stays_passed : {T U : Type 0} {a b : K} {f : KeepFault} (result : Result U KeepFault) → IsErrAnd result (λ e. e ≡ f) → StaysBy {T = T} k a b (Err f) → StaysBy k a b result
@@ -41,6 +42,7 @@ module _ {K : Type 0} (k : Ghosts K) where
     store = λ is. rest.store (err_too {T = U} {U = T} is);
     crash = rest.crash;
     whole = rest.whole;
+    group = rest.group;
   })
 
   -- a question that was answered, and then another
@@ -54,4 +56,5 @@ module _ {K : Type 0} (k : Ghosts K) where
     store = second.store;
     crash = λ s t means is at. ⊎_elim (λ was. first.crash s t means (second.honest is) was) (λ now. inr now) (second.crash s t (first.same s means) is at);
     whole = λ s means is was. second.whole s (first.same s means) is (first.whole s means (second.honest is) was);
+    group = group_then first.group second.group;
   }

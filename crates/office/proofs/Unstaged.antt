@@ -13,7 +13,7 @@ use Rattle.wire.specs.declared.session.SessionEnd.{SessionEnd}
 use Rattle.wire.specs.declared.session.SessionEnd.TheVariants.{ReadFault}
 use Rattle.office.specs.Connections.{MayGiveUp}
 use Rattle.office.specs.Premise.{EndsUnstaged, HoldsUnless, IsFault}
-use Rattle.office.proofs.Holding.{holds_less, holds_then}
+use Rattle.office.proofs.Holding.{group_still, group_then, holds_less, holds_then}
 
 -- if the count did not fall before a rise, it rose over both
 pub rose_later : (a b c : ℕ) → a ≤ b → Rose b c → Rose a c
@@ -53,6 +53,7 @@ asked_holds k a b x rest = record {
   opened = λ is was not. rest.opened is was;
   counted = λ not. rest.count.ok;
   never_less = let same = rest.count.ok in omega (arith, same);
+  group = rest.group;
 }
 
 -- a question that failed
@@ -62,6 +63,7 @@ failed_holds k a b f rest is = record {
   opened = λ h was not. absurd (not is);
   counted = λ not. absurd (not is);
   never_less = rose_least (k.faults a) (k.faults b) rest.count.err;
+  group = rest.group;
 }
 
 -- ---- sessions that may have given up
@@ -85,11 +87,12 @@ broke_off_holds k a b c (Err f) x y rose = record {
   opened = λ honest was other. absurd (other (inr (inr (refl, rose_later (k.faults a) (k.faults b) (k.faults c) x.never_less rose))));
   counted = λ other. absurd (other (inr (inr (refl, rose_later (k.faults a) (k.faults b) (k.faults c) x.never_less rose))));
   never_less = let low = x.never_less in let high = y.never_less in omega (arith, low, high);
+  group = group_then x.group y.group;
 }
 
 -- nothing was asked
 pub asked_nothing : {K P : Type 0} (k : Ghosts K) (a : K) → HoldsUnless k a a P
-asked_nothing k a = record { honest = λ is. is; opened = λ is was not. was; counted = λ not. refl; never_less = omega arith }
+asked_nothing k a = record { honest = λ is. is; opened = λ is was not. was; counted = λ not. refl; never_less = omega arith; group = group_still }
 
 module _ {K : Type 0} {k : Ghosts K} where
   -- two calls in a row
@@ -99,6 +102,7 @@ module _ {K : Type 0} {k : Ghosts K} where
     opened = λ is was not. y.opened is (x.opened (y.honest is) was (f not)) (g not);
     counted = λ not. y.counted (g not) ∙ x.counted (f not);
     never_less = let low = x.never_less in let high = y.never_less in omega (arith, low, high);
+    group = group_then x.group y.group;
   }
 
   -- what was staged is still staged after a call that keeps it

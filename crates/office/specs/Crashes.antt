@@ -1,4 +1,4 @@
--- What a crash after a call may leave of an office.
+-- What a crash after a call may leave of an office. Within a group: what it may leave once the group is settled.
 use Rattle.std.specs.Prelude.{◌≡◌, ◌≢◌, ℕ, ◌⊎◌, List, ⊤, Result, Ok, Err}
 use Rattle.sigtext.specs.declared.refusal.Refusal.{Refusal}
 use Rattle.sigtext.specs.declared.refusal.Refusal.TheVariants as rule

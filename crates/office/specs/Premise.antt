@@ -5,6 +5,7 @@ use Rattle.sigtext.specs.declared.refusal.Refusal.TheVariants as rule
 use Rattle.sigtext.specs.Counts.{Rose}
 use Rattle.boxes.specs.State.{State}
 use Rattle.boxes.specs.Sound.{IsSound}
+use Rattle.boxes.specs.Keeping.{KeepsGroup}
 use Rattle.boxes.specs.declared.keep.KeepFault.{KeepFault}
 use Rattle.boxes.specs.declared.keep.Keeper.{Ghosts}
 
@@ -20,12 +21,14 @@ pub record IsLeft (meant : State → Type 0) (s : State) : Type 0 where
   pub sound : IsSound s
 
 -- What a call leaves of the keeper besides its state. A keeper that is honest now was honest before. Unless
--- the call gave up, no fault was counted, and an honest keeper that was open is open. The count never falls.
+-- the call gave up, no fault was counted, and an honest keeper that was open is open. The count never falls. No group is begun
+-- or ended.
 pub record HoldsUnless {K : Type 0} (k : Ghosts K) (old new : K) (gave_up : Type 0) : Type 0 where
   pub honest : k.is_honest new → k.is_honest old
   pub opened : k.is_honest new → k.is_open old → (gave_up → ⊥) → k.is_open new
   pub counted : (gave_up → ⊥) → k.faults new ≡ k.faults old
   pub never_less : k.faults old ≤ k.faults new
+  pub group : KeepsGroup k.is_alone k.gathers old new
 
 -- the result is refusal 40
 abbrev pub IsGivenUp : {T : Type 0} → Result T Refusal → Type 0

@@ -2,6 +2,7 @@
 ghost use Rattle.std.specs.Prelude.{◌≡◌, pos, IfOk, OnErr};
 ghost use Rattle.sigv4.specs.Credential.{IsKeyId, IsSecret};
 ghost use Rattle.boxes.specs.FirstState.{first_state};
+ghost use Rattle.boxes.specs.Keeping.{KeepsGroup};
 ghost use Rattle.boxes.specs.State.{State};
 ghost use Rattle.office.specs.Connections.{TellsFaults};
 ghost use Rattle.office.specs.Premise.{IsLeft, WasKept};
@@ -106,6 +107,7 @@ pub fn replay_over<'a, F: Files, K: Keeper, W: Write>(
         × TakesTurns (InTurnOver K.Keeper office.old.keeper office.new.keeper
         (W.contents writer.old.inner) (W.contents writer.new.inner) s after moment) streams.now result }
     ensures honest { K.is_honest office.new.keeper → K.is_honest office.old.keeper }
+    ensures group { KeepsGroup K.is_alone K.gathers office.old.keeper office.new.keeper }
 {
     let mut faulty = 0;
     'streams: for name in streams {

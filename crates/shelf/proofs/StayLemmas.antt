@@ -33,7 +33,7 @@ still_open (Ok x) = tt
 still_open (Err f) = tt
 
 pub stays : {T : Type 0} (old new : Shelf) (result : Result T KeepFault) → ((s : State) → Holds old s → Holds new s) → CountsErrors old.faults new.faults result
-    → IfErr result (λ f. f ≡ Memory) → Stays Holds (λ _. Unit {0}) (λ _. Unit {0}) (λ k. k.faults) Holds (λ _. Unit {0}) ⊥ old new result
+    → IfErr result (λ f. f ≡ Memory) → Stays Holds (λ _. Unit {0}) (λ _. Unit {0}) (λ k. k.faults) Holds (λ _. Unit {0}) ⊥ (λ _. Unit {0}) (λ _ _. Unit {0}) old new result
 stays old new result same count fault = record {
   same = same;
   honest = λ h. tt;
@@ -43,10 +43,11 @@ stays old new result same count fault = record {
   store = not_store result fault;
   crash = λ s t h honest l. inr (one_state new t s l (same s h));
   whole = λ s h honest w. tt;
+  group = record { alone = λ h. tt; same = λ first h. tt };
 }
 
 -- nothing was changed
-pub untouched : {T : Type 0} (k : Shelf) (x : T) → Stays Holds (λ _. Unit {0}) (λ _. Unit {0}) (λ k. k.faults) Holds (λ _. Unit {0}) ⊥ k k (Ok x)
+pub untouched : {T : Type 0} (k : Shelf) (x : T) → Stays Holds (λ _. Unit {0}) (λ _. Unit {0}) (λ k. k.faults) Holds (λ _. Unit {0}) ⊥ (λ _. Unit {0}) (λ _ _. Unit {0}) k k (Ok x)
 untouched k x = stays k k (Ok x) (λ s held. held) (record { err = tt; ok = refl }) tt
 
 -- other bytes are staged
@@ -79,5 +80,5 @@ still_holds k bytes s held = record {
 }
 
 pub restaged : {T : Type 0} (k : Shelf) (bytes : Vec ℕ Global) (x : T)
-    → Stays Holds (λ _. Unit {0}) (λ _. Unit {0}) (λ k. k.faults) Holds (λ _. Unit {0}) ⊥ k (with_staged k bytes) (Ok x)
+    → Stays Holds (λ _. Unit {0}) (λ _. Unit {0}) (λ k. k.faults) Holds (λ _. Unit {0}) ⊥ (λ _. Unit {0}) (λ _ _. Unit {0}) k (with_staged k bytes) (Ok x)
 restaged k bytes x = stays k (with_staged k bytes) (Ok x) (still_holds k bytes) (record { err = tt; ok = refl }) tt

@@ -29,6 +29,9 @@ impl<K: Keeper> CachedKeeper<K> {
             ↔ K.stages keeper bytes) }
         ensures leaves { (t : State) → (⟦<CachedKeeper<K> as Keeper>⟧.leaves result t ↔ K.leaves keeper t) }
         ensures whole { ⟦<CachedKeeper<K> as Keeper>⟧.leaves_whole result ↔ K.leaves_whole keeper }
+        ensures rests { (t : State) → (⟦<CachedKeeper<K> as Keeper>⟧.rests result t ↔ K.rests keeper t) }
+        ensures rests_whole { ⟦<CachedKeeper<K> as Keeper>⟧.rests_whole result ↔ K.rests_whole keeper }
+        ensures alone { ⟦<CachedKeeper<K> as Keeper>⟧.is_alone result ↔ K.is_alone keeper }
     {
         CachedKeeper {
             keeper,
@@ -38,7 +41,10 @@ impl<K: Keeper> CachedKeeper<K> {
 
     /// Gives the inner keeper back.
     pub fn into_inner(self) -> K
-        ensures { result ≡ self.keeper }
+        ensures same { result ≡ self.keeper }
+        ensures alone { ⟦<CachedKeeper<K> as Keeper>⟧.is_alone self → K.is_alone result }
+        ensures rests { (t : State) → (⟦<CachedKeeper<K> as Keeper>⟧.rests self t ↔ K.rests result t) }
+        ensures rests_whole { ⟦<CachedKeeper<K> as Keeper>⟧.rests_whole self ↔ K.rests_whole result }
     {
         let CachedKeeper { keeper, cache: _ } = self;
         keeper

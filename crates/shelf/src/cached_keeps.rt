@@ -21,6 +21,14 @@ impl<K: Keeper> Keeper for CachedKeeper<K> {
 
     ghost leaves_whole = { λ c. K.leaves_whole c.keeper };
 
+    ghost rests = { λ c s. K.rests c.keeper s };
+
+    ghost rests_whole = { λ c. K.rests_whole c.keeper };
+
+    ghost is_alone = { λ c. K.is_alone c.keeper };
+
+    ghost gathers = { λ first c. K.gathers first.keeper c.keeper };
+
     ghost has_store = { K.has_store };
 
     fn settings(&mut self) -> Result<OfficeRow, KeepFault> {
@@ -132,9 +140,21 @@ impl<K: Keeper> Keeper for CachedKeeper<K> {
         or_forget(&mut self.cache, self.keeper.apply(change))
     }
 
+    fn gather(&mut self) {
+        self.keeper.gather();
+    }
+
+    fn settle(&mut self) -> Result<(), KeepFault> {
+        or_forget(&mut self.cache, self.keeper.settle())
+    }
+
     ghost one = { λ c s t honest opened a b. K.one c.keeper s t honest opened a.0 b.0 };
 
     ghost one_staged = { λ c a b honest opened x y. K.one_staged c.keeper a b honest opened x y };
 
     ghost always = { λ none c. K.always none c.keeper };
+
+    ghost settled = { λ c alone. let it = K.settled c.keeper alone in record { same = it.same; whole = it.whole } };
+
+    ghost lost = { λ store first c s in_group honest meant. let it = K.lost store first.keeper c.keeper s in_group honest meant.0 in record { either = it.either; whole = it.whole } };
 }

@@ -30,6 +30,14 @@ impl Keeper for Shelf {
 
     ghost leaves_whole = { λ _. Unit {0} };
 
+    ghost rests = { Holds };
+
+    ghost rests_whole = { λ _. Unit {0} };
+
+    ghost is_alone = { λ _. Unit {0} };
+
+    ghost gathers = { λ _ _. Unit {0} };
+
     ghost has_store = { ⊥ };
 
     fn settings(&mut self) -> Result<OfficeRow, KeepFault> {
@@ -116,11 +124,21 @@ impl Keeper for Shelf {
         }
     }
 
+    fn gather(&mut self) {}
+
+    fn settle(&mut self) -> Result<(), KeepFault> {
+        Ok(())
+    }
+
     ghost one = { λ k s t honest opened a b. one_state k s t a b };
 
     ghost one_staged = { λ k a b honest opened x y. one_text k a b x y };
 
     ghost always = { λ none k. (tt, tt) };
+
+    ghost settled = { λ k alone. record { same = λ t. (λ left. left, λ left. left); whole = (λ whole. whole, λ whole. whole) } };
+
+    ghost lost = { λ store. absurd store };
 }
 
 impl Shelf {

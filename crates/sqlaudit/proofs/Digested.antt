@@ -5,7 +5,7 @@ use Rattle.std.proofs.lemmas.List.Elements.{All-from_get_or, recursion_from_All}
 use Rattle.sqlite.specs.State.{State, HasCleanDisk, KeepsCommit, Survives}
 use Rattle.sqltables.specs.Schema.{Version}
 use Rattle.sqltables.specs.Means.{IsWhole, IsRunning}
-use Rattle.sqltables.specs.Inside.{View, seen, GoesOnWhere}
+use Rattle.sqltables.specs.Inside.{GoesOnWhere, IsSameLedger, View, seen}
 use Rattle.sqltables.proofs.Building.{survives_then, survives_itself, keeps_then}
 use Rattle.sqltables.proofs.Runs.{itself_keeps}
 use Rattle.sqltables.proofs.Gathering.{Gathered, OpensOurs, no_piece}
@@ -159,6 +159,6 @@ module _ (entry mid now : State) (receipts : List ReceiptLine) (files : List Fil
   }
 
 -- the effect of the calls so far
-pub looked_goes : {S : Type 0} {g : S → View} {old now : S} {receipts : List ReceiptLine} {files : List FileLine} → (g now).name ≡ (g old).name → Looked (seen g old) (seen g now) receipts files
+pub looked_goes : {S : Type 0} {g : S → View} {old now : S} {receipts : List ReceiptLine} {files : List FileLine} → IsSameLedger g old now → Looked (seen g old) (seen g now) receipts files
     → {T : Type 0} (value : T) → GoesOnWhere (IsRunning (seen g old)) (IsRunning (seen g old)) g old now (Ok value)
 looked_goes same looked value = record { same_reference = same; running = looked.running; uncommitted = looked.uncommitted; survives = looked.survives }

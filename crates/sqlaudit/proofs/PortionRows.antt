@@ -24,7 +24,7 @@ use Rattle.sqlite.specs.State.{State, HasCleanDisk, KeepsCommit, Survives}
 use Rattle.sqlite.proofs.Callers.{reads_as}
 use Rattle.sqltables.specs.Schema.{Version, IsVersion}
 use Rattle.sqltables.specs.Means.{IsRunning, IsWhole}
-use Rattle.sqltables.specs.Inside.{View, seen, GoesOnWhere}
+use Rattle.sqltables.specs.Inside.{GoesOnWhere, IsSameLedger, View, seen}
 use Rattle.sqltables.proofs.Building.{survives_then, survives_itself, keeps_then}
 use Rattle.sqltables.proofs.Forms.{all_rows, some_rows, select}
 use Rattle.sqltables.proofs.Queries.{AreFound, answered}
@@ -297,6 +297,6 @@ module _ {L : Type 0} (reads : Row → L → Type 0) (sql : List ℕ) (entry mid
       early clean = omega (arith, clean, goes.survives.clean)
 
 -- the effect of the calls so far
-pub portioned_goes : {S L : Type 0} {g : S → View} {reads : Row → L → Type 0} {sql : List ℕ} {old now : S} {numbers : List ℤ} {at : ℕ} {lines : List L} → (g now).name ≡ (g old).name → Portioned reads sql (seen g old) (seen g now) numbers at lines
+pub portioned_goes : {S L : Type 0} {g : S → View} {reads : Row → L → Type 0} {sql : List ℕ} {old now : S} {numbers : List ℤ} {at : ℕ} {lines : List L} → IsSameLedger g old now → Portioned reads sql (seen g old) (seen g now) numbers at lines
     → {T : Type 0} (value : T) → GoesOnWhere (IsRunning (seen g old)) (IsRunning (seen g old)) g old now (Ok value)
 portioned_goes same p value = record { same_reference = same; running = p.running; uncommitted = p.uncommitted; survives = p.survives }

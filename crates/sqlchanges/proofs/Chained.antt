@@ -8,11 +8,12 @@ use Rattle.sqltables.specs.Inside.{View, seen, GoesOnInside, GoesOnWhere}
 use Rattle.sqltables.specs.Means.{IsRunning}
 use Rattle.sqltables.proofs.Building.{survives_itself, survives_then, keeps_then}
 use Rattle.sqltables.proofs.Runs.{itself_keeps}
+use Rattle.sqltables.proofs.Onward.{same_itself, same_then}
 
 pub goes_on_then : {S T U : Type 0} (g : S → View) (a b c : S) (r : Result T Error) (q : Result U Error)
     → GoesOnInside g a b r → GoesOnInside g b c q → GoesOnInside g a c q
 goes_on_then g a b c r q one two = record {
-  same_reference = two.same_reference ∙ one.same_reference;
+  same_reference = same_then one.same_reference two.same_reference;
   running = two.running;
   uncommitted = λ clean.
       let early : HasCleanDisk (seen g b) = omega (arith, clean, two.survives.clean) in
@@ -23,12 +24,12 @@ goes_on_then g a b c r q one two = record {
 module _ {S : Type 0} {g : S → View} where
   -- nothing was called, and there is an error
   pub refused : {T : Type 0} {error : Error} (tx : S) → GoesOnInside {T = T} g tx tx (Err error)
-  refused tx = record { same_reference = refl; running = λ clean. tt; uncommitted = λ clean. itself_keeps (seen g tx); survives = survives_itself (seen g tx) }
+  refused tx = record { same_reference = same_itself; running = λ clean. tt; uncommitted = λ clean. itself_keeps (seen g tx); survives = survives_itself (seen g tx) }
 
   -- nothing was called, and the result is an error
   pub gave_up : {T : Type 0} (tx : S) (result : Result T Error) → IsErr result → GoesOnInside g tx tx result
   gave_up tx result err = record {
-    same_reference = refl;
+    same_reference = same_itself;
     running = λ clean. IfOk-from_err result _ err;
     uncommitted = λ clean. itself_keeps (seen g tx);
     survives = survives_itself (seen g tx);
@@ -58,7 +59,7 @@ module _ {S : Type 0} {g : S → View} where
   goes_on_maybe {old = old} {mid = mid} {new = new} one two =
       let early : HasCleanDisk (seen g new) → HasCleanDisk (seen g mid) = λ clean. omega (arith, clean, two.survives.clean) in
       record {
-        same_reference = two.same_reference ∙ one.same_reference;
+        same_reference = same_then one.same_reference two.same_reference;
         running = λ clean. two.running clean (one.running (early clean));
         uncommitted = λ clean. keeps_then (seen g old) (seen g mid) (seen g new) (one.uncommitted (early clean)) (two.uncommitted clean tt);
         survives = survives_then (seen g old) (seen g mid) (seen g new) one.survives two.survives;

@@ -11,3 +11,8 @@ pub mod Reopened
 pub mod NextTexts
 pub mod FileChanges
 pub mod RolledBack
+pub mod Grouped
+pub mod GroupAsked
+pub mod GroupEnded
+pub mod GroupTexts
+pub mod GroupMade

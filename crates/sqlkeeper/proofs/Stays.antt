@@ -1,5 +1,5 @@
 -- What a query to the file leaves of its keeper.
-use Rattle.std.proofs.Common.{◌≡◌, ◌≢◌, inl, inr, ℕ, Result, Ok, Err, IfOk, IfErr, OnOk, OnErr, IsTrue, subst}
+use Rattle.std.proofs.Common.{◌≡◌, ◌≢◌, ◌⊎◌, ℕ, sym, Result, Ok, Err, IfOk, IfErr, OnOk, OnErr, IsTrue, subst}
 use Rattle.std.specs.Prelude.{IsErr, IsErrOf}
 use Rattle.sqlite.specs.declared.error.Error.{Error}
 use Rattle.sqlite.specs.State.{HasCleanDisk}
@@ -9,10 +9,11 @@ use Rattle.boxes.specs.State.{State}
 use Rattle.boxes.specs.Sound.{IsSound}
 use Rattle.boxes.specs.declared.keep.KeepFault.{KeepFault}
 use Rattle.boxes.specs.declared.keep.KeepFault.TheVariants.{Full, Store}
-use Rattle.boxes.specs.Keeping.{Answers, Stays, LeavesAlone, LeavesEither}
+use Rattle.boxes.specs.Keeping.{KeepsGroup, Stays}
 use Rattle.sqltables.specs.Schema.{v2}
 use Rattle.sqltables.specs.Means.{Means, LeavesOnly, AddsOnly, LeavesLast}
-use Rattle.sqlkeeper.specs.Asking.{AnswersOf, LeavesOffice}
+use Rattle.sqlkeeper.specs.Grouping.{AsksIn, IsOpenIn, LeavesIn, LeavesStatesIn, MeansIn}
+use Rattle.sqlkeeper.specs.declared.grouping.Group.{Group}
 use Rattle.sqltables.specs.Kept.{KeepsState, MayLeave, LeavesStates}
 use Rattle.sqltables.specs.OneState.{one_left}
 
@@ -26,78 +27,31 @@ opened_too : {T : Type 0} (answer : Result T Error) (result : Result T KeepFault
 opened_too {T = T} answer (Ok x) is P h = subst (λ (a : Result T Error). OnOk a P) is h
 opened_too answer (Err e) is P h = tt
 
-module _ {K T : Type 0} (st : K → sql.State) (faults : K → ℕ) (old new : K) (answer : Result T Error) (result : Result T KeepFault) (value : IfOk result (λ x. answer ≡ Ok x)) where
-  pub stays : LeavesOffice (st old) (st new) answer → CountsErrors (faults old) (faults new) result → IfErr result (λ f. f ≢ Full)
-      → Stays (λ k. KeepsState (st k)) (λ k. HasCleanDisk (st k)) (λ k. IsTrue (st k).is_open) faults (λ k. MayLeave (st k)) (λ k. LeavesStates (st k)) (Unit {0}) old new result
-  stays rest count room = record {
-    same = λ s k. record { means = rest.kept s k.means; sound = k.sound };
+-- what follows from a change that was made, and from one that was not
+pub ok_carried : {P Q : Type 0} (answer : Result (Unit {0}) Error) (r : Result (Unit {0}) KeepFault) → IfOk r (λ x. answer ≡ Ok x) → OnOk answer P → (P → Q) → OnOk r Q
+ok_carried {P} answer (Ok x) is h then = then (subst (λ (a : Result (Unit {0}) Error). OnOk a P) is h)
+ok_carried answer (Err e) is h then = tt
+
+pub err_carried : {P Q : Type 0} (answer : Result (Unit {0}) Error) (r : Result (Unit {0}) KeepFault) → IfErr r (λ f. IsErr answer) → OnErr answer P → (P → Q) → OnErr r Q
+err_carried answer (Ok x) is h then = tt
+err_carried (Ok y) (Err e) is h then = absurd cc
+err_carried (Err y) (Err e) is h then = then h
+
+-- What a question leaves of a keeper. st, grp: what its connection shows, and where its changes go.
+module _ {K T : Type 0} (st : K → sql.State) (grp : K → Group) (faults : K → ℕ) (is_alone : K → Type 0) (gathers : K → K → Type 0) (group : Group) (old new : K) (is_old : grp old ≡ group) (is_new : grp new ≡ group)
+    (answer : Result T Error) (result : Result T KeepFault) (value : IfOk result (λ x. answer ≡ Ok x)) where
+  pub stays : AsksIn group (st old) (st new) answer → CountsErrors (faults old) (faults new) result → IfErr result (λ f. f ≢ Full) → KeepsGroup is_alone gathers old new
+      → Stays (λ k. MeansIn (grp k) (st k)) (λ k. HasCleanDisk (st k)) (λ k. IsOpenIn (grp k) (st k)) faults (λ k. LeavesIn (grp k) (st k)) (λ k. LeavesStatesIn (grp k) (st k)) (Unit {0}) is_alone gathers old new result
+  stays rest count room keeps = record {
+    same = λ s m. subst (λ x. MeansIn x (st new) s) (sym is_new) (rest.same s (subst (λ x. MeansIn x (st old) s) is_old m));
     honest = rest.honest;
-    opened = λ clean was. opened_too answer result value (IsTrue (st new).is_open) (rest.opened clean);
+    opened = λ clean was. opened_too answer result value (IsOpenIn (grp new) (st new)) (subst (λ x. OnOk answer (IsOpenIn x (st new))) (sym is_new) (rest.opened clean));
     count = count;
     room = room;
-    store = no_claim result;
-    crash = λ s t k clean leaves. elim (rest.crash s k.means clean leaves.trees leaves.left) [
-      | inl was ↦ inl (record { trees = leaves.trees; left = was; keep = leaves.keep })
-      | inr means ↦ inr (one_left leaves.trees t s leaves.keep (record { means = means; sound = k.sound }))
-    ];
-    whole = λ s k clean all again trees left. elim (rest.crash s k.means clean trees left) [
-      | inl was ↦ all (rest.honest clean) trees was
-      | inr means ↦ (s, record { means = means; sound = k.sound })
-    ];
-  }
-    where
-      no_claim : (r : Result T KeepFault) → IsErrOf r Store → Unit {0}
-      no_claim r h = tt
-
-  pub answers : (Holds : State → T → Type 0) → AnswersOf (st old) (st new) answer Holds
-      → Answers (λ k. KeepsState (st k)) (λ k. HasCleanDisk (st k)) old new result Holds
-  answers Holds found = λ s k sound clean. carried (Holds s) answer result value (found s k.means k.sound clean)
-
--- a crash leaves the committed state and no other
-pub left_alone : {K : Type 0} (st : K → sql.State) (new : K) (after : State) → IsSound after → HasCleanDisk (st new) → LeavesLast (st new) → LeavesOnly v2 (st new) after
-    → LeavesAlone (λ k. MayLeave (st k)) (λ k. LeavesStates (st k)) new after
-left_alone st new after sound clean last durable = record {
-  there = record { trees = (st new).committed.trees; left = last; keep = record { means = durable clean (st new).committed.trees last; sound = sound } };
-  alone = λ t leaves. one_left leaves.trees t after leaves.keep (record { means = durable clean leaves.trees leaves.left; sound = sound });
-  whole = λ again trees left. (after, record { means = durable clean trees left; sound = sound });
-}
-
-ok_carried : (answer : Result (Unit {0}) Error) (r : Result (Unit {0}) KeepFault) (P : Type 0) → IfOk r (λ x. answer ≡ Ok x) → OnOk answer P → OnOk r P
-ok_carried answer (Ok x) P is h = subst (λ (a : Result (Unit {0}) Error). OnOk a P) is h
-ok_carried answer (Err e) P is h = tt
-
-err_carried : (answer : Result (Unit {0}) Error) (r : Result (Unit {0}) KeepFault) (P : Type 0) → IfErr r (λ f. IsErr answer) → OnErr answer P → OnErr r P
-err_carried answer (Ok x) P is there = tt
-err_carried (Ok y) (Err e) P is there = absurd cc
-err_carried (Err y) (Err e) P is there = there
-
-module _ {K : Type 0} (st : K → sql.State) (faults : K → ℕ) (old new : K) (answer : Result (Unit {0}) Error) (result : Result (Unit {0}) KeepFault) (value : IfOk result (λ x. answer ≡ Ok x)) (fault : IfErr result (λ f. IsErr answer)) where
-  pub ok_too : (P : Type 0) → OnOk answer P → OnOk result P
-  ok_too P h = ok_carried answer result P value h
-
-  pub err_too : (P : Type 0) → OnErr answer P → OnErr result P
-  err_too P h = err_carried answer result P fault h
-
-  -- a crash leaves the state `after` and no other
-  pub alone : (after : State) → IsSound after → HasCleanDisk (st new) → OnOk answer (IsTrue (st new).is_open × LeavesLast (st new)) → OnOk answer (LeavesOnly v2 (st new) after)
-      → OnOk result (LeavesAlone (λ k. MayLeave (st k)) (λ k. LeavesStates (st k)) new after)
-  alone after sound clean opened durable = ok_too (LeavesAlone (λ k. MayLeave (st k)) (λ k. LeavesStates (st k)) new after) (go answer opened durable)
-    where
-      go : (a : Result (Unit {0}) Error) → OnOk a (IsTrue (st new).is_open × LeavesLast (st new)) → OnOk a (LeavesOnly v2 (st new) after)
-          → OnOk a (LeavesAlone (λ k. MayLeave (st k)) (λ k. LeavesStates (st k)) new after)
-      go (Err e) opened durable = tt
-      go (Ok x) opened durable = left_alone st new after sound clean opened.1 durable
-
-  pub either : (s after : State) → IsSound after → HasCleanDisk (st new) → HasCleanDisk (st old) → AddsOnly v2 (st old) (st new) after → LeavesEither (λ k. MayLeave (st k)) (λ k. LeavesStates (st k)) old new s after
-  either s after sound clean before adds = record {
-    either = λ t leaves. elim (adds clean leaves.trees leaves.left) [
-      | inl was ↦ inl (record { trees = leaves.trees; left = was; keep = leaves.keep })
-      | inr means ↦ inr (inr (one_left leaves.trees t after leaves.keep (record { means = means; sound = sound })))
-    ];
-    whole = λ all again trees left. elim (adds clean trees left) [
-      | inl was ↦ all before trees was
-      | inr means ↦ (after, record { means = means; sound = sound })
-    ];
+    store = λ is. tt;
+    crash = λ s t m clean left. subst (λ x. LeavesIn x (st old) t ⊎ (t ≡ s)) (sym is_old) (rest.crash s t (subst (λ x. MeansIn x (st old) s) is_old m) clean (subst (λ x. LeavesIn x (st new) t) is_new left));
+    whole = λ s m clean all. subst (λ x. LeavesStatesIn x (st new)) (sym is_new) (rest.whole s (subst (λ x. MeansIn x (st old) s) is_old m) clean (subst (λ x. LeavesStatesIn x (st old)) is_old all));
+    group = keeps;
   }
 
 pub kept_then : {X E : Type 0} (new : sql.State) (after : State) (r : Result X E) → IsSound after → OnOk r (Means v2 new after) → OnOk r (KeepsState new after)

@@ -1,4 +1,4 @@
-//! Makes a change in a transaction of its own.
+//! Makes a change, in a transaction of its own or in that of a group.
 
 ghost use Rattle.std.specs.Prelude.{◌≡◌, OnOk, OnErr};
 ghost use Rattle.sqlite.specs.State.{HasCleanDisk};
@@ -7,11 +7,14 @@ ghost use Rattle.boxes.specs.State.{State};
 ghost use Rattle.boxes.specs.Sound.{IsSound};
 ghost use Rattle.boxes.specs.Changes.{IsChangeOf};
 ghost use Rattle.sqltables.specs.Schema.{v2};
-ghost use Rattle.sqltables.specs.Means.{Means, LeavesOnly, AddsOnly};
+ghost use Rattle.sqltables.specs.Tables.{tables_of};
+ghost use Rattle.sqltables.specs.Means.{Means, LeavesOnly, AddsOnly, Pends};
 ghost use Rattle.sqltables.specs.Staging.{held};
 ghost use Rattle.sqlkeeper.specs.Committing.{EndsOpen};
+ghost use Rattle.sqlkeeper.specs.Grouping.{GoesOnInGroup};
 
 use crate::changing::write_change;
+use crate::grouping::undo;
 use boxes::Change;
 use sqlite::{Alter, Connection, Error, ErrorCode};
 use sqltables::staging::Pieces;
@@ -44,4 +47,36 @@ pub(crate) fn apply_change<S: Alter>(
     let mut tx = conn.transaction();
     write_change(&mut tx, change, staged)?;
     tx.commit()
+}
+
+/// Makes a change that the rules allow for the office, within the transaction of a group.
+///
+/// # Errors
+///
+/// The errors of `apply_change`, and an error if no transaction is pending. The transaction is then undone.
+pub(crate) fn apply_in_group<S: Alter>(
+    conn: &mut Connection<S>,
+    change: &Change<'_>,
+    staged: &Pieces,
+) -> Result<(), Error>
+    ensures made { (s after : State) → Pends v2 (state S.Store conn.old) (tables_of s) → IsSound s
+        → IsChangeOf (λ bytes. held staged.now ≡ bytes) s change.now after
+        → OnOk result (Pends v2 (state S.Store conn.new) (tables_of after)) }
+    ensures undone { (s : State) → Pends v2 (state S.Store conn.old) (tables_of s)
+        → OnErr result (Pends v2 (state S.Store conn.new) (tables_of s)) }
+    ensures rest { GoesOnInGroup (state S.Store conn.old) (state S.Store conn.new) result }
+{
+    if conn.is_autocommit() {
+        return Err(Error::SqliteFailure(ErrorCode::TransactionState));
+    }
+    let mut mark = conn.savepoint()?;
+    let written = write_change(&mut mark, change, staged);
+    match written {
+        Ok(()) => mark.commit(),
+        Err(error) => {
+            let _ = mark.finish();
+            undo(conn);
+            Err(error)
+        }
+    }
 }

@@ -1,9 +1,9 @@
-//! Asks the office file. Each question is put in a transaction of its own, which writes nothing. It commits if there is an
-//! answer, so that a store that has shut itself down gives none.
+//! Asks the office file. Outside a group's transaction each question is put in one of its own, which writes nothing. It commits if
+//! there is an answer, so that a store that has shut itself down gives none.
 
 ghost use Rattle.std.specs.Prelude.{IsTrue, IfOk, OnOk};
 ghost use Rattle.sqlite.specs.State.{HasCleanDisk};
-ghost use Rattle.sqlite.specs.Held.{state};
+ghost use Rattle.sqlite.specs.Held.{Held, state};
 ghost use Rattle.boxes.specs.State.{State};
 ghost use Rattle.boxes.specs.Sound.{IsSound};
 ghost use Rattle.sqltables.specs.Schema.{v2};
@@ -11,7 +11,9 @@ ghost use Rattle.sqltables.specs.Tables.{tables_of};
 ghost use Rattle.sqltables.specs.Inside.{seen, GoesOnBegun};
 ghost use Rattle.sqltables.specs.Means.{Pends};
 ghost use Rattle.sqlkeeper.specs.Asking.{AnswersOf, LeavesOffice};
+ghost use Rattle.sqlkeeper.specs.Grouping.{AsksIn, GoesOnInGroup, IsGrouped, MeansIn};
 
+use crate::grouping::{Group, undo};
 use sqlite::{Alter, Connection, Error, ErrorCode};
 use sqltables::calls::Ledger;
 
@@ -33,11 +35,26 @@ pub(crate) trait Question {
         ensures rest { GoesOnBegun T.view tx.old tx.new result };
 }
 
-/// The answer to this question.
-pub(crate) fn ask<S: Alter, Q: Question>(
+/// The answer to this question, in the transaction of the group if one was begun.
+pub(crate) fn ask_in<S: Alter, Q: Question>(
     conn: &mut Connection<S>,
+    group: Group,
     question: &Q,
 ) -> Result<Q::Answer, Error>
+    ensures found { (s : State) → MeansIn group (state S.Store conn.old) s → IsSound s
+        → HasCleanDisk (state S.Store conn.new) → IfOk result (Q.says question.now s) }
+    ensures rest { AsksIn group (state S.Store conn.old) (state S.Store conn.new) result }
+    ensures grouped { (first : Held S) → IsGrouped (state S.Store first) group (state S.Store conn.old)
+        → IsGrouped (state S.Store first) group (state S.Store conn.new) }
+{
+    match group {
+        Group::Alone | Group::Idle => ask(conn, question),
+        Group::Begun => ask_in_group(conn, question),
+    }
+}
+
+// The answer to this question, in a transaction of its own.
+fn ask<S: Alter, Q: Question>(conn: &mut Connection<S>, question: &Q) -> Result<Q::Answer, Error>
     ensures found { AnswersOf (state S.Store conn.old) (state S.Store conn.new) result
         (Q.says question.now) }
     ensures rest { LeavesOffice (state S.Store conn.old) (state S.Store conn.new) result }
@@ -49,4 +66,33 @@ pub(crate) fn ask<S: Alter, Q: Question>(
     let answer = question.put(&mut tx)?;
     tx.commit()?;
     Ok(answer)
+}
+
+// The answer to this question, within the transaction of a group. An error undoes the transaction.
+fn ask_in_group<S: Alter, Q: Question>(
+    conn: &mut Connection<S>,
+    question: &Q,
+) -> Result<Q::Answer, Error>
+    ensures found { (s : State) → Pends v2 (state S.Store conn.old) (tables_of s) → IsSound s
+        → HasCleanDisk (state S.Store conn.new) → IfOk result (Q.says question.now s) }
+    ensures still { (s : State) → Pends v2 (state S.Store conn.old) (tables_of s)
+        → Pends v2 (state S.Store conn.new) (tables_of s) }
+    ensures rest { GoesOnInGroup (state S.Store conn.old) (state S.Store conn.new) result }
+{
+    if conn.is_autocommit() {
+        return Err(Error::SqliteFailure(ErrorCode::TransactionState));
+    }
+    let mut mark = conn.savepoint()?;
+    let answer = question.put(&mut mark);
+    match answer {
+        Ok(answer) => {
+            mark.commit()?;
+            Ok(answer)
+        }
+        Err(error) => {
+            let _ = mark.finish();
+            undo(conn);
+            Err(error)
+        }
+    }
 }

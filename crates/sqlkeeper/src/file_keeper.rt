@@ -1,32 +1,35 @@
 //! The keeper over an office file.
 
-ghost use Rattle.std.specs.Prelude.{◌≡◌, ◌≢◌, ◌↔◌, ◌⊎◌, [], pos, neg_ℤ, ◌≤ℤ◌, Ok, IfOk, IfErr, IsErr, IsTrue, ⊤};
+ghost use Rattle.std.specs.Prelude.{◌≡◌, ◌≢◌, ◌↔◌, ◌⊎◌, [], pos, neg_ℤ, ◌≤ℤ◌, Ok, IfOk, IfErr, OnOk, OnErr, IsErr, IsTrue, ⊤};
 ghost use Rattle.sigv4.specs.Credential.{IsKeyId, IsSecret};
 ghost use Rattle.boxes.specs.FirstState.{first_state};
+ghost use Rattle.boxes.specs.Sound.{IsSound};
 ghost use Rattle.boxes.specs.State.{State};
-ghost use Rattle.boxes.specs.Changes.{MayChange, IsPastFull, TakesStaged};
+ghost use Rattle.boxes.specs.Changes.{IsChangeOf, MayChange, IsPastFull, TakesStaged};
 ghost use Rattle.sigtext.specs.Counts.{CountsErrors};
 ghost use Rattle.sqlite.specs.State.{HasCleanDisk};
 ghost use Rattle.sqlite.specs.Held.{state};
-ghost use Rattle.boxes.specs.Keeping.{LeavesAlone};
+ghost use Rattle.boxes.specs.Keeping.{KeepsGroup, LeavesAlone};
 ghost use Rattle.sqltables.specs.Means.{IsBare, AddsOnly};
 ghost use Rattle.sqltables.specs.Schema.{v2, s0};
 ghost use Rattle.sqltables.specs.Tables.{NoneStaged};
 ghost use Rattle.sqltables.specs.Kept.{KeepsState, MayLeave, LeavesStates};
-ghost use Rattle.sqltables.specs.OneState.{one_kept};
 ghost use Rattle.sqlaudit.specs.Opened.{HasOurs, AreFirstNamed, AreNamed, OnlyLooks, LeavesUntouched, IsFound, IsEither};
 ghost use Rattle.sqltables.specs.Staging.{held};
 ghost use Rattle.sqlkeeper.specs.Emptying.{EmptiesStaged, HasNoneStaged};
+ghost use Rattle.sqlkeeper.specs.Grouping.{IsGrouped, IsOpenIn, LeavesIn, LeavesOneIn, LeavesOnlyIn, LeavesStatesIn, MeansIn};
+ghost use Rattle.sqlkeeper.specs.InGroup.{leaves_alone, loses, loses_whole, one_in, states_alone};
 ghost use Rattle.sqlkeeper.specs.OneText.{one_text};
 ghost use Rattle.sqlkeeper.specs.Sparing.{Spares};
 ghost use Rattle.sqlkeeper.specs.Versions.{IsOfficeFile, IsRefusedFile};
 
 mod rolling;
 
-use crate::applying::apply_change;
-use crate::asking::{Question, ask};
+use crate::applying::{apply_change, apply_in_group};
+use crate::asking::{Question, ask_in};
 use crate::creating::create;
 use crate::emptying::empty_file;
+use crate::grouping::{Group, begin, commit};
 use crate::questions::{
     BoxOf, Clerks, FileOf, HasBytes, HasLimit, KeyOf, MayUse, NextNumber, ReceiptOf, Receipts,
     Settings, TotalsOf,
@@ -52,6 +55,7 @@ pub struct SqlKeeper<S: Alter> {
     // The staged bytes. They are in no table.
     staged: Pieces,
     faults: u64,
+    group: Group,
     alloc: Global,
 }
 
@@ -172,6 +176,7 @@ impl<S: Alter> SqlKeeper<S> {
             → NoneStaged (state S.Store k.conn).now.trees) }
         ensures staged { IfOk result (λ k. ⟦<SqlKeeper<S> as Keeper>⟧.stages k []) }
         ensures none { IfOk result (λ k. ⟦<SqlKeeper<S> as Keeper>⟧.faults k ≡ 0) }
+        ensures alone { IfOk result (λ k. ⟦<SqlKeeper<S> as Keeper>⟧.is_alone k) }
         ensures durable { neg_ℤ (pos 840) ≤ℤ office.east → office.east ≤ℤ pos 840 → IsKeyId id.now
             → IsSecret secret.now
             → IfOk result (λ k. ⟦<SqlKeeper<S> as Keeper>⟧.is_honest k
@@ -208,6 +213,7 @@ impl<S: Alter> SqlKeeper<S> {
                 conn,
                 staged: Pieces::new(alloc),
                 faults: 0,
+                group: Group::Alone,
                 alloc,
             }),
             Err(error) => Err((open_fault_of(error), conn)),
@@ -248,6 +254,7 @@ impl<S: Alter> SqlKeeper<S> {
             → ⟦<SqlKeeper<S> as Keeper>⟧.is_open k) }
         ensures staged { IfOk result (λ k. ⟦<SqlKeeper<S> as Keeper>⟧.stages k []) }
         ensures none { IfOk result (λ k. ⟦<SqlKeeper<S> as Keeper>⟧.faults k ≡ 0) }
+        ensures alone { IfOk result (λ k. ⟦<SqlKeeper<S> as Keeper>⟧.is_alone k) }
         ensures durable { IfOk result (λ k. ⟦<SqlKeeper<S> as Keeper>⟧.is_honest k → (s : State)
             → ⟦<SqlKeeper<S> as Keeper>⟧.means k s
             → LeavesAlone ⟦<SqlKeeper<S> as Keeper>⟧.leaves ⟦<SqlKeeper<S> as Keeper>⟧.leaves_whole
@@ -284,6 +291,7 @@ impl<S: Alter> SqlKeeper<S> {
                     conn,
                     staged: Pieces::new(alloc),
                     faults: 0,
+                    group: Group::Alone,
                     alloc,
                 }),
                 Err(error) => Err((open_fault_of(error), conn)),
@@ -332,6 +340,7 @@ impl<S: Alter> SqlKeeper<S> {
             → ⟦<SqlKeeper<S> as Keeper>⟧.is_open k) }
         ensures staged { IfOk result (λ k. ⟦<SqlKeeper<S> as Keeper>⟧.stages k []) }
         ensures none { IfOk result (λ k. ⟦<SqlKeeper<S> as Keeper>⟧.faults k ≡ 0) }
+        ensures alone { IfOk result (λ k. ⟦<SqlKeeper<S> as Keeper>⟧.is_alone k) }
         ensures durable { IfOk result (λ k. ⟦<SqlKeeper<S> as Keeper>⟧.is_honest k → (s : State)
             → ⟦<SqlKeeper<S> as Keeper>⟧.means k s
             → LeavesAlone ⟦<SqlKeeper<S> as Keeper>⟧.leaves ⟦<SqlKeeper<S> as Keeper>⟧.leaves_whole
@@ -367,6 +376,7 @@ impl<S: Alter> SqlKeeper<S> {
                     conn,
                     staged: Pieces::new(alloc),
                     faults: 0,
+                    group: Group::Alone,
                     alloc,
                 }),
                 Err(error) => Err((open_fault_of(error), conn)),
@@ -376,6 +386,7 @@ impl<S: Alter> SqlKeeper<S> {
                     conn,
                     staged: Pieces::new(alloc),
                     faults: 0,
+                    group: Group::Alone,
                     alloc,
                 }),
                 Err(error) => Err((open_fault_of(error), conn)),
@@ -386,25 +397,30 @@ impl<S: Alter> SqlKeeper<S> {
         }
     }
 
-    /// Returns the connection as it is. The keeper and the connection mean the same state, and a crash leaves the same for
-    /// both.
+    /// Returns the connection as it is. Outside a group the keeper and the connection mean the same state, and a crash leaves the
+    /// same for both.
     pub fn close(self) -> Connection<S>
         ensures same { result ≡ self.conn }
         ensures honest { ⟦<SqlKeeper<S> as Keeper>⟧.is_honest self
             ↔ HasCleanDisk (state S.Store result) }
-        ensures opened { ⟦<SqlKeeper<S> as Keeper>⟧.is_open self
-            ↔ IsTrue (state S.Store result).is_open }
-        ensures means { (s : State) → (⟦<SqlKeeper<S> as Keeper>⟧.means self s
-            ↔ KeepsState (state S.Store result) s) }
-        ensures leaves { (s : State) → (⟦<SqlKeeper<S> as Keeper>⟧.leaves self s
+        ensures opened { ⟦<SqlKeeper<S> as Keeper>⟧.is_alone self
+            → (⟦<SqlKeeper<S> as Keeper>⟧.is_open self ↔ IsTrue (state S.Store result).is_open) }
+        ensures means { ⟦<SqlKeeper<S> as Keeper>⟧.is_alone self → (s : State)
+            → (⟦<SqlKeeper<S> as Keeper>⟧.means self s ↔ KeepsState (state S.Store result) s) }
+        ensures leaves { ⟦<SqlKeeper<S> as Keeper>⟧.is_alone self → (s : State)
+            → (⟦<SqlKeeper<S> as Keeper>⟧.leaves self s ↔ MayLeave (state S.Store result) s) }
+        ensures whole { ⟦<SqlKeeper<S> as Keeper>⟧.is_alone self
+            → (⟦<SqlKeeper<S> as Keeper>⟧.leaves_whole self ↔ LeavesStates (state S.Store result)) }
+        ensures rests { (s : State) → (⟦<SqlKeeper<S> as Keeper>⟧.rests self s
             ↔ MayLeave (state S.Store result) s) }
-        ensures whole { ⟦<SqlKeeper<S> as Keeper>⟧.leaves_whole self
+        ensures rests_whole { ⟦<SqlKeeper<S> as Keeper>⟧.rests_whole self
             ↔ LeavesStates (state S.Store result) }
     {
         let SqlKeeper {
             conn,
             staged: _,
             faults: _,
+            group: _,
             alloc: _,
         } = self;
         conn
@@ -422,24 +438,71 @@ impl<S: Alter> SqlKeeper<S> {
         ensures rest { StaysBy ⟦<SqlKeeper<S> as Keeper>⟧ self.old self.new result }
         ensures staged { self.new.staged ≡ self.old.staged }
     {
-        counted(&mut self.faults, ask(&mut self.conn, question))
+        let answer = ask_in(&mut self.conn, self.group, question);
+        counted(&mut self.faults, answer)
+    }
+
+    // Makes the change in a transaction of its own, or in that of the group.
+    fn make(&mut self, change: &Change<'_>) -> Result<(), sqlite::Error>
+        ensures made { (s after : State) → MeansIn self.old.group (state S.Store self.old.conn) s → IsSound s
+            → IsChangeOf (λ bytes. held self.old.staged ≡ bytes) s change.now after → IsSound after
+            → OnOk result (MeansIn self.new.group (state S.Store self.new.conn) after) }
+        ensures same { (s : State) → MeansIn self.old.group (state S.Store self.old.conn) s
+            → OnErr result (MeansIn self.new.group (state S.Store self.new.conn) s) }
+        ensures honest { HasCleanDisk (state S.Store self.new.conn) → HasCleanDisk (state S.Store self.old.conn) }
+        ensures opened { HasCleanDisk (state S.Store self.new.conn)
+            → OnOk result (IsOpenIn self.new.group (state S.Store self.new.conn)) }
+        ensures durable { (s after : State) → MeansIn self.old.group (state S.Store self.old.conn) s → IsSound s
+            → IsChangeOf (λ bytes. held self.old.staged ≡ bytes) s change.now after → IsSound after
+            → HasCleanDisk (state S.Store self.new.conn)
+            → OnOk result (LeavesOnlyIn self.new.group (state S.Store self.new.conn) after) }
+        ensures crash { (s after : State) → MeansIn self.old.group (state S.Store self.old.conn) s → IsSound s
+            → IsChangeOf (λ bytes. held self.old.staged ≡ bytes) s change.now after → IsSound after
+            → HasCleanDisk (state S.Store self.new.conn)
+            → OnErr result (LeavesOneIn self.old.group (state S.Store self.old.conn)
+            self.new.group (state S.Store self.new.conn) s after) }
+        ensures group { KeepsGroup ⟦<SqlKeeper<S> as Keeper>⟧.is_alone ⟦<SqlKeeper<S> as Keeper>⟧.gathers
+            self.old self.new }
+        ensures rest { (self.new.staged ≡ self.old.staged) × (self.new.faults ≡ self.old.faults)
+            × (self.new.alloc ≡ self.old.alloc) }
+    {
+        match self.group {
+            Group::Alone => apply_change(&mut self.conn, change, &self.staged),
+            Group::Begun => apply_in_group(&mut self.conn, change, &self.staged),
+            Group::Idle => {
+                begin(&mut self.conn)?;
+                self.group = Group::Begun;
+                apply_in_group(&mut self.conn, change, &self.staged)
+            }
+        }
     }
 }
 
 impl<S: Alter> Keeper for SqlKeeper<S> {
-    ghost means = { λ k. KeepsState (state S.Store k.conn) };
+    ghost use Rattle.sqlkeeper.specs.declared.grouping.Group.TheVariants.{Alone};
+
+    ghost means = { λ k. MeansIn k.group (state S.Store k.conn) };
 
     ghost stages = { λ k b. held k.staged ≡ b };
 
     ghost is_honest = { λ k. HasCleanDisk (state S.Store k.conn) };
 
-    ghost is_open = { λ k. IsTrue (state S.Store k.conn).is_open };
+    ghost is_open = { λ k. IsOpenIn k.group (state S.Store k.conn) };
 
     ghost faults = { λ k. k.faults };
 
-    ghost leaves = { λ k. MayLeave (state S.Store k.conn) };
+    ghost leaves = { λ k. LeavesIn k.group (state S.Store k.conn) };
 
-    ghost leaves_whole = { λ k. LeavesStates (state S.Store k.conn) };
+    ghost leaves_whole = { λ k. LeavesStatesIn k.group (state S.Store k.conn) };
+
+    ghost rests = { λ k. MayLeave (state S.Store k.conn) };
+
+    ghost rests_whole = { λ k. LeavesStates (state S.Store k.conn) };
+
+    ghost is_alone = { λ k. k.group ≡ Alone };
+
+    ghost gathers = { λ first k. (first.group ≡ Alone) × (k.group ≢ Alone)
+        × IsGrouped (state S.Store first.conn) k.group (state S.Store k.conn) };
 
     ghost has_store = { ⊤ };
 
@@ -550,7 +613,8 @@ impl<S: Alter> Keeper for SqlKeeper<S> {
             name,
             bytes: &self.staged,
         };
-        counted(&mut self.faults, ask(&mut self.conn, &question))
+        let answer = ask_in(&mut self.conn, self.group, &question);
+        counted(&mut self.faults, answer)
     }
 
     fn stage_take(&mut self) -> Vec<u8> {
@@ -573,17 +637,35 @@ impl<S: Alter> Keeper for SqlKeeper<S> {
             return Err(KeepFault::Full);
         }
         law_of_changes();
-        let answer = counted(
-            &mut self.faults,
-            apply_change(&mut self.conn, change, &self.staged),
-        );
+        let made = self.make(change);
+        let answer = counted(&mut self.faults, made);
         unstage(&mut self.staged, self.alloc, change);
         answer
     }
 
-    ghost one = { λ k s t honest opened a b. one_kept _ s t honest opened a b };
+    fn gather(&mut self) {
+        if matches!(self.group, Group::Alone) {
+            self.group = Group::Idle;
+        }
+    }
+
+    fn settle(&mut self) -> Result<(), KeepFault> {
+        match mem::replace(&mut self.group, Group::Alone) {
+            Group::Alone | Group::Idle => Ok(()),
+            Group::Begun => counted(&mut self.faults, commit(&mut self.conn)),
+        }
+    }
+
+    ghost one = { λ k s t honest opened a b. one_in k.group _ s t honest opened a b };
 
     ghost one_staged = { λ k a b honest opened x y. one_text (held k.staged) a b x y };
 
     ghost always = { λ none k. absurd (none tt) };
+
+    ghost settled = { λ k alone. record { same = λ t. leaves_alone k.group _ t alone; whole = states_alone k.group _ alone } };
+
+    ghost lost = { λ store first k s in_group honest meant. record {
+      either = loses first.group _ k.group _ s in_group.0 in_group.2 honest meant;
+      whole = loses_whole first.group _ k.group _ s in_group.0 in_group.2 honest meant;
+    } };
 }

@@ -8,6 +8,7 @@ mod creating;
 mod emptying;
 mod file_keeper;
 mod following;
+mod grouping;
 mod questions;
 mod upgrading;
 

@@ -3,7 +3,7 @@ use Rattle.std.proofs.Common.{Ok, ◌≡◌, ℕ, ◌+◌, ◌≤◌, zero, suc,
 use Rattle.std.proofs.lemmas.List.{take_all, map-append, length-drop}
 use Rattle.std.specs.Prelude.{Result}
 use Rattle.sqlite.specs.declared.error.Error.{Error}
-use Rattle.sqltables.specs.Inside.{View, seen, GoesOnBegun, GoesOnWhere}
+use Rattle.sqltables.specs.Inside.{GoesOnBegun, GoesOnWhere, IsSameLedger, View, seen}
 use Rattle.sqlite.specs.State.{State, HasCleanDisk, KeepsCommit, Survives}
 use Rattle.boxes.specs.State.{Receipt}
 use Rattle.std.specs.List.{AllByRecursion}
@@ -15,6 +15,7 @@ use Rattle.sqltables.specs.Tables.{Tables}
 use Rattle.sqltables.specs.Means.{Pends, IsRunning}
 use Rattle.sqltables.specs.Questions.{IsReceiptOf}
 use Rattle.sqltables.proofs.Building.{survives_then, keeps_then}
+use Rattle.sqltables.proofs.Onward.{same_then}
 
 -- ---- queries change nothing, however many there are
 
@@ -26,16 +27,16 @@ pub record Unmoved (entry now : State) : Type 0 where
   pub still : (v : Version) (tables : Tables) → IsVersion v → Pends v entry tables → Pends v now tables
 
 -- the effect of the queries so far
-pub unmoved_goes : {S : Type 0} {g : S → View} {old now : S} → (g now).name ≡ (g old).name → Unmoved (seen g old) (seen g now) → {T : Type 0} (value : T) → GoesOnWhere (IsRunning (seen g old)) (IsTrue (seen g old).in_transaction) g old now (Ok value)
+pub unmoved_goes : {S : Type 0} {g : S → View} {old now : S} → IsSameLedger g old now → Unmoved (seen g old) (seen g now) → {T : Type 0} (value : T) → GoesOnWhere (IsRunning (seen g old)) (IsTrue (seen g old).in_transaction) g old now (Ok value)
 unmoved_goes same unmoved value = record { same_reference = same; running = unmoved.running; uncommitted = unmoved.uncommitted; survives = unmoved.survives }
 
 -- the effect of the queries so far, and of the next
-pub unmoved_and : {S : Type 0} {g : S → View} {old mid new : S} {T : Type 0} {result : Result T Error} → (g mid).name ≡ (g old).name → Unmoved (seen g old) (seen g mid) → GoesOnBegun g mid new result
+pub unmoved_and : {S : Type 0} {g : S → View} {old mid new : S} {T : Type 0} {result : Result T Error} → IsSameLedger g old mid → Unmoved (seen g old) (seen g mid) → GoesOnBegun g mid new result
     → GoesOnWhere (IsRunning (seen g old)) (IsTrue (seen g old).in_transaction) g old new result
 unmoved_and {g = g} {old = old} {mid = mid} {new = new} same unmoved next =
     let early : HasCleanDisk (seen g new) → HasCleanDisk (seen g mid) = λ clean. omega (arith, clean, next.survives.clean) in
     record {
-      same_reference = next.same_reference ∙ same;
+      same_reference = same_then same next.same_reference;
       running = λ clean running. next.running clean (unmoved.running (early clean) running).0;
       uncommitted = λ clean inside. keeps_then (seen g old) (seen g mid) (seen g new) (unmoved.uncommitted (early clean) inside) (next.uncommitted clean (unmoved.inside (early clean) inside));
       survives = survives_then (seen g old) (seen g mid) (seen g new) unmoved.survives next.survives;

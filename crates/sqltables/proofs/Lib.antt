@@ -26,3 +26,4 @@ pub mod Places
 pub mod Asked
 pub mod Held
 pub mod GatheredCalls
+pub mod Apart

@@ -5,10 +5,17 @@ use Rattle.std.specs.Result.{IsErr}
 use Rattle.std.proofs.lemmas.Result.{IfOk-from_err}
 use Rattle.sqlite.specs.declared.error.Error.{Error}
 use Rattle.sqlite.specs.State.{HasCleanDisk}
-use Rattle.sqltables.specs.Inside.{View, seen, GoesOnBegun, GoesOnWhere}
+use Rattle.sqltables.specs.Inside.{IsSameLedger, View, seen, GoesOnBegun, GoesOnWhere}
 use Rattle.sqltables.specs.Means.{IsRunning}
 use Rattle.sqltables.proofs.Building.{keeps_then, survives_itself, survives_then}
 use Rattle.sqltables.proofs.Runs.{itself_keeps}
+
+-- the transaction itself
+pub same_itself : {S : Type 0} {g : S → View} {tx : S} → IsSameLedger g tx tx
+same_itself = record { name = refl; apart = λ apart. apart }
+
+pub same_then : {S : Type 0} {g : S → View} {old mid new : S} → IsSameLedger g old mid → IsSameLedger g mid new → IsSameLedger g old new
+same_then first second = record { name = second.name ∙ first.name; apart = λ apart. second.apart (first.apart apart) }
 
 on_any : {T E P : Type 0} (result : Result T E) → P → OnOk result P
 on_any (Ok value) is = is
@@ -18,7 +25,7 @@ module _ {S : Type 0} {g : S → View} {Ran Began : Type 0} where
   -- nothing was called
   pub not_called : {T : Type 0} (tx : S) (result : Result T Error) → (Ran → OnOk result (IsRunning (seen g tx))) → GoesOnWhere Ran Began g tx tx result
   not_called tx result running = record {
-    same_reference = refl;
+    same_reference = same_itself;
     running = λ clean ran. running ran;
     uncommitted = λ clean began. itself_keeps (seen g tx);
     survives = survives_itself (seen g tx);
@@ -72,7 +79,7 @@ module _ {S : Type 0} {g : S → View} {Ran Began : Type 0} where
 
     pub and_then : GoesOnWhere Ran Began g old new result
     and_then = record {
-      same_reference = second.same_reference ∙ first.same_reference;
+      same_reference = same_then first.same_reference second.same_reference;
       running = λ clean ran. second.running clean (then (first.running (early clean) ran)).0;
       uncommitted = λ clean is. keeps_then (seen g old) (seen g mid) (seen g new) (first.uncommitted (early clean) is) (second.uncommitted clean (then (first.running (early clean) (began is))).1);
       survives = survives_then (seen g old) (seen g mid) (seen g new) first.survives second.survives;

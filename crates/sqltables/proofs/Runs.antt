@@ -10,10 +10,10 @@ use Rattle.sqlite.specs.Clock.{timed}
 use Rattle.sqlite.specs.State.{State, IsUnchanged, IsRolledBack, text_of, IsNotRun, FailsToShow, FailsToQuery, KeepsCommit, ExecutesInside, ShowsRows, Shown, Writes, IsTooLate}
 use Rattle.sqltables.specs.Means.{IsRunning}
 
-rolled_keeps : (old new : State) → IsRolledBack old new → KeepsCommit old new
+pub rolled_keeps : (old new : State) → IsRolledBack old new → KeepsCommit old new
 rolled_keeps old new h = record { was_open = h.was_open; committed = λ is_open. (h.undone is_open).1 }
 
-unchanged_keeps : (old new : State) → IsUnchanged old new → KeepsCommit old new
+pub unchanged_keeps : (old new : State) → IsUnchanged old new → KeepsCommit old new
 unchanged_keeps old new h = record { was_open = λ _. h.0.was_open; committed = λ _. h.0.committed_is }
 
 pub inside_if_ok : (inside : Bool) (r : Result ℕ Error) (n : ℕ) (e : Error) (P : Type 0) → (inside ≡ false → (r ≡ Err e) × P) → r ≡ Ok n → IsTrue inside

@@ -10,10 +10,17 @@ use Rattle.boxes.specs.Sound.{IsSound}
 use Rattle.sqltables.specs.Tables.{Tables, tables_of}
 use Rattle.sqltables.specs.Means.{Pends, IsRunning, IsWhole}
 
--- what the connection of a transaction shows, and the name of the transaction's reference to it
+-- What the connection of a transaction shows, and the name of the transaction's reference to it. apart: what holds of a savepoint
+-- that did not begin the transaction.
 pub record View : Type 1 where
   pub state : State
   pub name : GName
+  pub apart : Type 0
+
+-- it is the same transaction, and its savepoint is still there
+pub record IsSameLedger {S : Type 0} (g : S → View) (old new : S) : Type 0 where
+  pub name : (g new).name ≡ (g old).name
+  pub apart : (g old).apart → (g new).apart
 
 -- what the transaction's connection shows
 abbrev pub seen : {S : Type 0} → (S → View) → S → State
@@ -22,14 +29,14 @@ seen g tx = (g tx).state
 -- The result of a call that queries or writes, whether or not it succeeded: it is the same transaction, which goes on if the
 -- call succeeded; nothing was committed; and a crash leaves nothing new.
 pub record GoesOnInside {S T : Type 0} (g : S → View) (old new : S) (result : Result T Error) : Type 0 where
-  pub same_reference : (g new).name ≡ (g old).name
+  pub same_reference : IsSameLedger g old new
   pub running : HasCleanDisk (seen g new) → OnOk result (IsRunning (seen g new))
   pub uncommitted : HasCleanDisk (seen g new) → KeepsCommit (seen g old) (seen g new)
   pub survives : Survives (seen g old) (seen g new) (λ _. ⊥)
 
 -- the same for a call that may have nothing to run: under Ran the transaction goes on; under Began nothing was committed
 pub record GoesOnWhere {S T : Type 0} (Ran Began : Type 0) (g : S → View) (old new : S) (result : Result T Error) : Type 0 where
-  pub same_reference : (g new).name ≡ (g old).name
+  pub same_reference : IsSameLedger g old new
   pub running : HasCleanDisk (seen g new) → Ran → OnOk result (IsRunning (seen g new))
   pub uncommitted : HasCleanDisk (seen g new) → Began → KeepsCommit (seen g old) (seen g new)
   pub survives : Survives (seen g old) (seen g new) (λ _. ⊥)

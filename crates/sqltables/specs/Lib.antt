@@ -8,3 +8,4 @@ pub mod OneState
 pub mod Inside
 pub mod Pieces
 pub mod Staging
+pub mod Apart

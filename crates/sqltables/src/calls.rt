@@ -4,14 +4,15 @@ ghost use Rattle.std.specs.Prelude.{IfOk, IsTrue, Ok};
 ghost use Rattle.sqlite.specs.Held.{state};
 ghost use Rattle.sqlite.specs.State.{HasCleanDisk, ExecutesInside, Shown};
 ghost use Rattle.sqlite.specs.Values.{bound};
+ghost use Rattle.sqltables.specs.Apart.{IsApart};
 ghost use Rattle.sqltables.specs.Inside.{View, seen, GoesOnInside, GoesOnBegun};
 
 use sqlite::types::ValueRef;
-use sqlite::{Alter, Error, Row, Transaction};
+use sqlite::{Alter, Error, Row, Savepoint, Transaction};
 
 /// A transaction: it runs statements and queries.
 pub trait Ledger {
-    /// What its connection shows, and which reference it has to it.
+    /// What its connection shows, which reference it has to it, and what holds of its savepoint.
     ghost view: { Self → View };
 
     /// Runs a statement that writes, and returns how many rows it wrote.
@@ -39,7 +40,7 @@ pub trait Ledger {
 }
 
 impl<'conn, S: Alter> Ledger for Transaction<'conn, S> {
-    ghost view = { λ tx. record { state = state S.Store tx.conn.now; name = tx.conn.ghost_name } };
+    ghost view = { λ tx. record { state = state S.Store tx.conn.now; name = tx.conn.ghost_name; apart = Unit {0} } };
 
     fn execute(&mut self, sql: &str, params: &[ValueRef<'_>]) -> Result<usize, Error> {
         Transaction::execute(self, sql, params)
@@ -47,5 +48,22 @@ impl<'conn, S: Alter> Ledger for Transaction<'conn, S> {
 
     fn query(&mut self, sql: &str, params: &[ValueRef<'_>]) -> Result<Vec<Row>, Error> {
         self.query_all(sql, params)
+    }
+}
+
+// A savepoint within a transaction. It keeps a text from ending the transaction.
+impl<'conn, S: Alter> Ledger for Savepoint<'conn, S> {
+    ghost view = { λ mark. record {
+      state = state S.Store mark.conn.now;
+      name = mark.conn.ghost_name;
+      apart = IsApart (state S.Store mark.conn.now) mark.at;
+    } };
+
+    fn execute(&mut self, sql: &str, params: &[ValueRef<'_>]) -> Result<usize, Error> {
+        Savepoint::execute(self, sql, params)
+    }
+
+    fn query(&mut self, sql: &str, params: &[ValueRef<'_>]) -> Result<Vec<Row>, Error> {
+        Savepoint::query_all(self, sql, params)
     }
 }

@@ -9,7 +9,7 @@ use sqlkeeper::SqlKeeper;
 use std::alloc::Global;
 use std::test::Fail;
 use trials::boxed::office_row;
-use trials::errands::{ERRANDS, Errand};
+use trials::errands::{ERRANDS, Errand, begin, set_file};
 use trials::published::{ID, SECRET};
 use trials::telling::{holds, told};
 
@@ -102,6 +102,39 @@ impl OfficeTrial for DayTrial {
     }
 }
 
+// Sets two files, in a group where this is asked. Each change sees the one before.
+fn set_two<K: Keeper>(keeper: &mut K, in_group: bool) -> Result<(), Fail> {
+    if in_group {
+        keeper.gather();
+    }
+    let first = set_file(keeper, b"a", b"one")?;
+    let second = set_file(keeper, b"b", b"two")?;
+    holds(second == first.saturating_add(1), "another number")?;
+    keeper.settle()?;
+    Ok(())
+}
+
+// Two files that are set in a group, and a group without a change. Then the office answers as the keeper in memory, which set
+// them one by one.
+#[derive(Drop)]
+struct GroupTrial;
+
+impl OfficeTrial for GroupTrial {
+    fn run<K: Keeper + Drop>(self, mut office: Office<K>) -> Result<bool, Fail> {
+        let alloc = office.alloc;
+        let mut shelf = Shelf::new(alloc, office_row(0), ID, SECRET)?;
+        begin(&mut shelf)?;
+        begin(&mut office.keeper)?;
+        set_two(&mut shelf, false)?;
+        set_two(&mut office.keeper, true)?;
+        office.keeper.gather();
+        office.keeper.settle()?;
+        let same = told(alloc, &mut shelf)? == told(alloc, &mut office.keeper)?;
+        holds(same, "another office after a group")?;
+        Ok(true)
+    }
+}
+
 // A request with one refused call. It came to its end if it makes fewer calls.
 #[derive(Drop)]
 struct CallTrial {
@@ -119,6 +152,12 @@ impl OfficeTrial for CallTrial {
 #[test]
 fn a_day_is_the_same_in_both_keepers(rt: HostRuntime) -> Result<(), Fail> {
     try_in_memory(rt.alloc(), DayTrial)?;
+    Ok(())
+}
+
+#[test]
+fn a_group_is_kept_as_single_changes_are(rt: HostRuntime) -> Result<(), Fail> {
+    try_in_memory(rt.alloc(), GroupTrial)?;
     Ok(())
 }
 

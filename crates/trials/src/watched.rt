@@ -4,8 +4,8 @@ ghost use Rattle.sigtext.specs.Counts.{CountsErrors};
 
 use boxes::{BoxRow, Change, FileRow, KeepFault, Keeper, KeyRow, OfficeRow, ReceiptRow, Totals};
 
-/// Passes each call on, except the one that it refuses. Its contract claims no state, only what is staged: what the inner keeper
-/// has staged.
+/// Passes each call on, except the one that it refuses. Its contract claims no state. What is staged, and whether a group has
+/// begun, is as in the inner keeper.
 #[derive(Drop)]
 pub struct Watched<K> {
     pub inner: K,
@@ -83,6 +83,14 @@ impl<K: Keeper> Keeper for Watched<K> {
     ghost leaves = { λ _ _. ⊥ };
 
     ghost leaves_whole = { λ _. Unit {0} };
+
+    ghost rests = { λ _ _. ⊥ };
+
+    ghost rests_whole = { λ _. Unit {0} };
+
+    ghost is_alone = { λ k. K.is_alone k.inner };
+
+    ghost gathers = { λ first k. K.gathers first.inner k.inner };
 
     ghost has_store = { Unit {0} };
 
@@ -196,9 +204,23 @@ impl<K: Keeper> Keeper for Watched<K> {
         self.leave(outcome)
     }
 
+    fn gather(&mut self) {
+        self.inner.gather();
+    }
+
+    // It is never refused: a group ends in any case.
+    fn settle(&mut self) -> Result<(), KeepFault> {
+        let outcome = self.inner.settle();
+        self.leave(outcome)
+    }
+
     ghost one = { λ k s t honest opened a b. absurd a };
 
     ghost one_staged = { λ k a b honest opened p q. absurd honest };
 
     ghost always = { λ none k. absurd (none tt) };
+
+    ghost settled = { λ k alone. record { same = λ t. (λ left. left, λ left. left); whole = (λ whole. whole, λ whole. whole) } };
+
+    ghost lost = { λ store first k s in_group honest meant. absurd honest };
 }

@@ -27,6 +27,7 @@ fn has_failed(end: Option<SessionEnd>) -> bool
 
 impl<K: Keeper> Office<K> {
     ghost use Rattle.std.specs.Prelude.{◌≤◌, ◌+◌, ◌++◌, ◌<◌, ℕ, List, length, slice_set, Option, None};
+    ghost use Rattle.boxes.specs.Keeping.{KeepsGroup};
     ghost use Rattle.boxes.specs.State.{State};
     ghost use Rattle.wire.specs.Crowds.{GivenTurn, slot_at};
     ghost use Rattle.office.specs.Crowds.{ServesCrowd, TurnsSlot};
@@ -44,6 +45,7 @@ impl<K: Keeper> Office<K> {
             × TurnsSlot C.now_gives R.remaining W.contents due.most clock.old clock.new
             K.Keeper self.old.keeper self.new.keeper s after slot.old slot.new result.is_fault }
         ensures honest { K.is_honest self.new.keeper → K.is_honest self.old.keeper }
+        ensures group { KeepsGroup K.is_alone K.gathers self.old.keeper self.new.keeper }
         ensures unstaged { StaysUnstaged K.Keeper self.old.keeper self.new.keeper }
         ensures never_less { K.faults self.old.keeper ≤ K.faults self.new.keeper }
     {
@@ -76,6 +78,7 @@ impl<K: Keeper> Office<K> {
             K.Keeper self.old.keeper self.new.keeper s after (slot_at slots.old due.index) now result.is_fault }
         ensures slot { (now : Option (Seat R W)) × (slots.new ≡ slice_set slots.old due.index now) }
         ensures honest { K.is_honest self.new.keeper → K.is_honest self.old.keeper }
+        ensures group { KeepsGroup K.is_alone K.gathers self.old.keeper self.new.keeper }
         ensures unstaged { StaysUnstaged K.Keeper self.old.keeper self.new.keeper }
         ensures never_less { K.faults self.old.keeper ≤ K.faults self.new.keeper }
     {
@@ -118,6 +121,7 @@ impl<K: Keeper> Office<K> {
             K.Keeper self.old.keeper self.new.keeper (length before) more result s after) }
         ensures over { G.over crowd.new }
         ensures honest { K.is_honest self.new.keeper → K.is_honest self.old.keeper }
+        ensures alone { K.is_alone self.old.keeper → K.is_alone self.new.keeper }
         ensures unstaged { StaysUnstaged K.Keeper self.old.keeper self.new.keeper }
         ensures never_less { K.faults self.old.keeper ≤ K.faults self.new.keeper }
     {

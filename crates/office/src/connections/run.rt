@@ -7,6 +7,7 @@ use wire::Counted;
 
 impl<K: Keeper> Office<K> {
     ghost use Rattle.std.specs.Prelude.{◌≤◌};
+    ghost use Rattle.boxes.specs.Keeping.{KeepsGroup};
     ghost use Rattle.boxes.specs.State.{State};
     ghost use Rattle.office.specs.Connections.{Runs};
     ghost use Rattle.office.specs.Premise.{IsLeft, StaysUnstaged, WasKept};
@@ -35,6 +36,7 @@ impl<K: Keeper> Office<K> {
             connections.old connections.new
             K.Keeper self.old.keeper self.new.keeper s after result }
         ensures honest { K.is_honest self.new.keeper → K.is_honest self.old.keeper }
+        ensures group { KeepsGroup K.is_alone K.gathers self.old.keeper self.new.keeper }
         ensures unstaged { StaysUnstaged K.Keeper self.old.keeper self.new.keeper }
         ensures never_less { K.faults self.old.keeper ≤ K.faults self.new.keeper }
     {

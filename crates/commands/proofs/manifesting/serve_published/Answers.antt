@@ -1,4 +1,7 @@
-use Rattle.std.proofs.Common.{◌≡◌, ap, inr, refl, subst, sym, ◌∙◌, ⊎_elim, arith}
+use Rattle.std.proofs.Common.{◌≡◌, None, ap, inr, refl, subst, sym, ◌∙◌, ⊎_elim, arith}
+use Rattle.std.specs.Prelude.{IsTrue, ⊤}
+use Rattle.boxes.specs.Sound.{IsSound}
+use Rattle.lists.specs.Published.{IsPublished, with_held}
 use Rattle.lists.specs.declared.publisher.Publisher.{Publisher}
 use Rattle.commands.proofs.Crowds.{less}
 use Rattle.commands.proofs.Landing.{looks, more, unasked, within}
@@ -15,14 +18,18 @@ returns-in_default-create g c =
 pub returns : goal.returns
 returns g c =
     let k = g.K.Keeper in
-    let (told, stays, whole) = c.begin-publisher.ensures.stays in
-    let same = ap (λ (p : Publisher g.row.K.Denot _ _). p.keeper) c.new-office-2.ensures ∙ c.unless_placed.ensures in
-    rw (c.into_inner.ensures, c.published-2.ensures.ending)
+    let P = Publisher g.row.K.Denot _ _ in
+    let begun = c.begin-publisher.ensures in
+    let (told, stays, whole) = begun.stays in
+    let same = ap (λ (p : P). p.keeper) c.new-office-2.ensures ∙ c.unless_placed.ensures.keeper in
+    rw (c.into_inner.ensures.same, c.published-2.ensures.ending)
     (more (less _ _ _ _ _ _ _ _ _ _ _ _ _ c.published-2.ensures.done) (within
     (record {
       honest = λ honest. honest;
       before = λ honest. stays.honest (subst k.is_honest same honest);
-      means = λ s means clean. (subst (λ x. k.means x s) (sym same) (stays.same s means), λ honest sound. (tt, λ is_whole. tt));
+      ungrouped = λ alone. subst (λ (p : P). k.is_alone p.keeper × (p.held ≡ None)) (sym c.new-office-2.ensures) (c.unless_placed.ensures.alone (begun.alone alone));
+      ungrouped_too = λ alone. alone.0;
+      means = λ s means clean. subst (λ (p : P). k.means p.keeper s × (k.is_honest p.keeper → IsSound s → ⊤ × (IsTrue p.is_whole → IsPublished s (with_held p.held None)))) (sym c.new-office-2.ensures) (c.unless_placed.ensures.means s (begun.means s means tt));
       within = λ s means. means.0;
       alone = λ s means clean alone. record {
         alone = λ t at. ⊎_elim (alone.alone t) (λ (is : t ≡ s). is) (stays.crash s t means (subst k.is_honest same clean) (subst (λ x. k.leaves x t) same at));

@@ -20,3 +20,9 @@ returns-in-Err-clause-nothing g c = grind arith
 
 pub returns-in-Err-clause-unstaged : goal.returns-in-Err-clause-unstaged
 returns-in-Err-clause-unstaged g c = grind arith
+
+pub returns-clause-alone : goal.returns-clause-alone
+returns-clause-alone g c = c.serve_through-listener.ensures.alone
+
+pub returns-in-Err-clause-alone : goal.returns-in-Err-clause-alone
+returns-in-Err-clause-alone g c = λ alone. alone

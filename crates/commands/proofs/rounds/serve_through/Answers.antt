@@ -32,3 +32,6 @@ returns-clause-honest g c = grind arith
 
 pub returns-clause-never_less : goal.returns-clause-never_less
 returns-clause-never_less g c = grind arith
+
+pub returns-clause-alone : goal.returns-clause-alone
+returns-clause-alone g c = c.serve_crowd-faulty.ensures.alone

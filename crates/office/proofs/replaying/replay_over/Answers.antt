@@ -1,6 +1,7 @@
 use Rattle.std.proofs.Common.{◌≡◌, ◌+◌, ◌∙◌, cond, length, subst, sym, refl, ap, arith}
 use Rattle.wire.specs.Ends.{is_fault}
 use Rattle.office.specs.Replays.{InTurnOver}
+use Rattle.office.proofs.Holding.{group_still, group_then}
 use Rattle.office.proofs.Turns.{name_at, none_over, over_more}
 use Rattle.office.proofs.replaying.replay_over.Goals as goal
 use Rattle.office.proofs.replaying.replay_over.Goals.{then-is_fault, else-is_fault}
@@ -15,6 +16,7 @@ streams-init g c = (
   ),
   λ honest. honest,
   omega arith,
+  group_still,
 )
 
 pub streams-preserved : goal.streams-preserved
@@ -34,6 +36,7 @@ streams-preserved g c =
           ),
       λ honest. c.streams.invariant.1 (c.session-end.ensures.rest.honest honest),
       elim c.if-is_fault.branch [ then-is_fault w ↦ omega arith | else-is_fault w ↦ omega arith ],
+      group_then c.streams.invariant.3 c.session-end.ensures.rest.group,
     )
 
 pub returns-in_default-clause-turns : goal.returns-in_default-clause-turns
@@ -46,3 +49,9 @@ returns-clause-turns g c s kept =
     let turns = c.streams.invariant.0 s kept in
     let all : c.streams.name-index ≡ length c.args.streams.now = omega arith in
     (turns.0, turns.1, subst (λ n. InTurnOver g.K.Keeper c.args.office.now.keeper c.streams.office.keeper (g.W.Write.contents c.args.writer.now.inner) (g.W.Write.contents c.streams.writer.inner) s turns.0 c.args.moment n c.streams.faulty) all turns.2)
+
+pub returns-in_default-clause-group : goal.returns-in_default-clause-group
+returns-in_default-clause-group g c = c.streams.invariant.3
+
+pub returns-clause-group : goal.returns-clause-group
+returns-clause-group g c = c.streams.invariant.3

@@ -1,4 +1,5 @@
 use Rattle.std.proofs.Common.{◌≤◌}
+use Rattle.boxes.specs.Keeping.{KeepsGroup}
 use Rattle.boxes.specs.State.{State}
 use Rattle.office.specs.Premise.{IsLeft, WasKept}
 use Rattle.office.specs.Replays.{InTurnOver}
@@ -11,3 +12,4 @@ invariant-streams g l =
     × InTurnOver g.K.Keeper l.fn.office.keeper l.office.keeper (g.W.Write.contents l.fn.writer.inner) (g.W.Write.contents l.writer.inner) s after l.moment l.name-index l.faulty)
     × (g.K.Keeper.is_honest l.office.keeper → g.K.Keeper.is_honest l.fn.office.keeper)
     × (l.faulty ≤ l.name-index)
+    × KeepsGroup g.K.Keeper.is_alone g.K.Keeper.gathers l.fn.office.keeper l.office.keeper

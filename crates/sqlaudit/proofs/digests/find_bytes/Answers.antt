@@ -7,14 +7,14 @@ use Rattle.sqltables.specs.Pieces.{HasPiece, IsPieceAt}
 use Rattle.sqltables.proofs.Gathering.{Gathered, ReadsNext, OpensOurs, gathers, ours_at, whole_at, no_bytes, none_gathered}
 use Rattle.sqltables.proofs.GatheredCalls.{gathered_goes, gathered_then}
 use Rattle.sqlaudit.proofs.Digested.{lacked_at, next_misfits}
-use Rattle.sqltables.proofs.Onward.{failed, followed, gave_up, succeeded}
+use Rattle.sqltables.proofs.Onward.{failed, followed, gave_up, same_itself, same_then, succeeded}
 use Rattle.sqlaudit.proofs.digests.find_bytes.Goals as goal
 
 pub loop-tx-init : goal.loop-tx-init
 loop-tx-init g c =
     let place : Place = record { box = c.args.in_box.now; name = c.args.name.now } in
     let entry = seen g.T.Ledger.view c.args.tx.now in
-    (refl, subst (λ bytes. Gathered entry entry place c.args.size bytes 0) (sym c.in_ok-bytes.ensures.items) (none_gathered entry place c.args.size))
+    (same_itself, subst (λ bytes. Gathered entry entry place c.args.size bytes 0) (sym c.in_ok-bytes.ensures.items) (none_gathered entry place c.args.size))
 
 pub loop-tx-preserved : goal.loop-tx-preserved
 loop-tx-preserved g c =
@@ -36,7 +36,7 @@ loop-tx-preserved g c =
     let items : c.extend_from_slice.new.self.items ≡ bytes ++ piece = ◌∙◌ {b = bytes ++ c.deref.result.now} c.in_ok-extend_from_slice.ensures.items (ap (◌++◌ bytes) c.deref.ensures.value) in
     let less : length bytes < c.args.size = subst (λ n. n < c.args.size) (c.len.ensures ∙ c.loop-tx.bytes.ok.0) c.loop-tx-test.true in
     let fits : length piece ≡ min (c.args.size - length bytes) 65536 = search rules in
-    (c.read_piece.ensures.rest.same_reference ∙ c.loop-tx.invariant.0, subst₂ (Gathered entry now place c.args.size) (sym items) (sym count) (gathers entry mid now place c.args.size bytes piece c.loop-tx.part c.loop-tx.invariant.1 next less fits))
+    (same_then c.loop-tx.invariant.0 c.read_piece.ensures.rest.same_reference, subst₂ (Gathered entry now place c.args.size) (sym items) (sym count) (gathers entry mid now place c.args.size bytes piece c.loop-tx.part c.loop-tx.invariant.1 next less fits))
 
 pub returns-in_default-clause-read : goal.returns-in_default-clause-read
 returns-in_default-clause-read g c v ours has whole inside clean =

@@ -6,11 +6,11 @@ use Rattle.sqlaudit.specs.Opened.{HasBytes, LacksBytes}
 use Rattle.sqlaudit.proofs.Entries.{has_at}
 use Rattle.sqltables.proofs.Gathering.{OpensOurs}
 use Rattle.sqlaudit.proofs.Digested.{LooksOn, none_looked, looked_goes, looked_on, one_more}
-use Rattle.sqltables.proofs.Onward.{and_then, failed, succeeded}
+use Rattle.sqltables.proofs.Onward.{and_then, failed, same_itself, same_then, succeeded}
 use Rattle.sqlaudit.proofs.digests.have_bytes.Goals as goal
 
 pub loop-file-init : goal.loop-file-init
-loop-file-init g c = (refl, none_looked (seen g.T.Ledger.view c.args.tx.now) c.args.receipts.now)
+loop-file-init g c = (same_itself, none_looked (seen g.T.Ledger.view c.args.tx.now) c.args.receipts.now)
 
 pub loop-file-preserved : goal.loop-file-preserved
 loop-file-preserved g c =
@@ -24,7 +24,7 @@ loop-file-preserved g c =
       uncommitted = c.has_bytes.ensures.rest.uncommitted;
       survives = c.has_bytes.ensures.rest.survives;
     } in (
-      c.has_bytes.ensures.rest.same_reference ∙ c.loop-file.invariant.0,
+      same_then c.loop-file.invariant.0 c.has_bytes.ensures.rest.same_reference,
       one_more entry mid now c.args.receipts.now c.args.files.now c.loop-file.file-index c.file-item.result c.in_ok-has_bytes.field-0 c.loop-file.invariant.1 next c.if-not-branch.false c.loop-file-test.true (sym c.file-item.is),
     )
 

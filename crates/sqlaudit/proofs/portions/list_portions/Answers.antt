@@ -1,14 +1,14 @@
 use Rattle.std.proofs.Common.{◌≡◌, ◌+◌, ◌++◌, ◌-◌, ◌≤◌, pos, get_or, to_z, of_z, w64, length, rules, refl, sym, subst, ◌∙◌, arith}
 use Rattle.sqltables.specs.Inside.{seen}
 use Rattle.sqlaudit.proofs.PortionRows.{Opens, Portioned, ReadsOn, none_read, read_on, all_read}
-use Rattle.sqltables.proofs.Onward.{and_then, failed, gave_up}
+use Rattle.sqltables.proofs.Onward.{and_then, failed, gave_up, same_itself, same_then}
 use Rattle.sqlaudit.proofs.PortionRows.{portioned_goes}
 use Rattle.sqlaudit.proofs.portions.list_portions.Goals as goal
 
 pub loop-at-init : goal.loop-at-init
 loop-at-init g c =
     let entry = seen g.T.Ledger.view c.args.tx.now in
-    (refl, subst (Portioned g.L.Line.reads c.args.sql.now entry entry c.args.numbers.now 0) (sym c.in_ok-lines.ensures.items) (none_read g.L.Line.reads c.args.sql.now entry c.args.numbers.now))
+    (same_itself, subst (Portioned g.L.Line.reads c.args.sql.now entry entry c.args.numbers.now 0) (sym c.in_ok-lines.ensures.items) (none_read g.L.Line.reads c.args.sql.now entry c.args.numbers.now))
 
 pub loop-at-preserved : goal.loop-at-preserved
 loop-at-preserved g c =
@@ -29,7 +29,7 @@ loop-at-preserved g c =
     } in
     let items : c.append.new.self.items ≡ c.loop-at.lines.items ++ more = c.in_ok-append.ensures.items in
     let within : end ≤ length numbers = search rules in (
-      c.list_between.ensures.rest.same_reference ∙ c.loop-at.invariant.0,
+      same_then c.loop-at.invariant.0 c.list_between.ensures.rest.same_reference,
       subst (Portioned g.L.Line.reads c.args.sql.now entry now numbers end) (sym items) (read_on g.L.Line.reads c.args.sql.now entry mid now numbers at end c.loop-at.lines.items more c.loop-at.invariant.1 next within),
     )
 

@@ -15,7 +15,7 @@ use Rattle.sqlaudit.proofs.FileEntries.{no_sums}
 use Rattle.sqlaudit.proofs.LongTexts.{files_between, file_shown}
 use Rattle.sqlaudit.proofs.PortionRows.{ReadsOn, GoesFrom, none_read, portioned_goes}
 use Rattle.sqlaudit.proofs.WalkedFiles.{OpensWhole, opens_files, seen_then, unfiled_portion, lacking_portion, walked_on, all_walked}
-use Rattle.sqltables.proofs.Onward.{and_then, failed, succeeded}
+use Rattle.sqltables.proofs.Onward.{and_then, failed, same_itself, same_then, succeeded}
 use Rattle.sqlaudit.proofs.walking.test_files.Given as given
 use Rattle.sqlaudit.proofs.walking.test_files.Goals.{In_ok-lines}
 use Rattle.sqlaudit.proofs.walking.test_files.Goals as goal
@@ -43,7 +43,7 @@ module _ (g : given.Over) (c : In_ok-lines g) where
 pub loop-at-init : goal.loop-at-init
 loop-at-init g c =
     let entry = seen g.T.Ledger.view c.args.tx.now in (
-      refl,
+      same_itself,
       record {
         done = [];
         portioned = none_read IsFileLine files_between entry c.args.numbers.now;
@@ -158,7 +158,7 @@ loop-at-preserved g c =
     subst (λ ls. MatchBool c.in_ok-have_bytes.field-0 ((file : FileLine) → Contains ls file → HasBytes (now.now.trees 9) given file) ((file : FileLine) × Contains ls file × LacksBytes (now.now.trees 9) given file))
     c.deref-in-loop-at.ensures.value (c.in_ok-have_bytes.ensures.read v opens.version opens.schema opens.whole opens.running clean) in
     let w = c.loop-at.invariant.1 in (
-      c.have_bytes.ensures.rest.same_reference ∙ c.list_between.ensures.rest.same_reference ∙ c.loop-at.invariant.0,
+      same_then (same_then c.loop-at.invariant.0 c.list_between.ensures.rest.same_reference) c.have_bytes.ensures.rest.same_reference,
       walked_on entry mid now given numbers at end c.loop-at.files c.loop-at.sums w more next within then goes c.in_ok-have_bytes.field-0 read c.if-not-branch-2.false c.add_lines.new.files c.add_lines.new.sums
           (λ rs held. subst (λ ls. AreFiled rs (w.done ++ ls) c.add_lines.new.files c.add_lines.new.sums) c.deref.ensures.value
           (subst (λ b. MatchBool b (AreFiled rs (w.done ++ c.deref.result.now) c.add_lines.new.files c.add_lines.new.sums) (AreUnfiled rs (w.done ++ c.deref.result.now))) c.if-not-branch.false

@@ -9,6 +9,7 @@ use Rattle.sqltables.specs.Means.{Pends}
 use Rattle.sqltables.proofs.Building.{survives_then, keeps_then, one_more, all_pieces, survives_itself, no_pieces}
 use Rattle.sqltables.specs.Staging.{held}
 use Rattle.sqltables.proofs.Held.{none_left}
+use Rattle.sqltables.proofs.Onward.{same_itself, same_then}
 use Rattle.sqlchanges.proofs.statements.insert_pieces.Goals as goal
 
 pub loop-piece-preserved : goal.loop-piece-preserved
@@ -22,7 +23,7 @@ loop-piece-preserved g c =
     let built = c.loop-piece.invariant.1 in
     let early : HasCleanDisk new → HasCleanDisk mid = λ clean. omega (arith, c.in_ok-insert_piece.ensures.rest.survives.clean) in
     let is : piece_of bytes count ≡ Some c.in-Some.piece.now = sym c.piece.ensures ∙ ap (option_map (λ (piece : Bor (List ℕ)). piece.now)) c.in-Some.is in (
-      c.in_ok-insert_piece.ensures.rest.same_reference ∙ c.loop-piece.invariant.0,
+      same_then c.loop-piece.invariant.0 c.in_ok-insert_piece.ensures.rest.same_reference,
       record {
         uncommitted = λ clean. keeps_then entry mid new (built.uncommitted (early clean)) (c.in_ok-insert_piece.ensures.rest.uncommitted clean);
         survives = survives_then entry mid new built.survives c.in_ok-insert_piece.ensures.rest.survives;
@@ -44,7 +45,7 @@ pub loop-piece-init : goal.loop-piece-init
 loop-piece-init g c =
     let entry = seen g.T.Ledger.view c.args.tx.now in
     let place : Place = record { box = c.args.box_name.now; name = c.args.name.now } in (
-      refl,
+      same_itself,
       record {
         uncommitted = λ clean. itself_keeps entry;
         survives = survives_itself entry;

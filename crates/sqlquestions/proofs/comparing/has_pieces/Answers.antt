@@ -7,14 +7,14 @@ use Rattle.sqltables.specs.Tables.{piece_of}
 use Rattle.sqltables.specs.Staging.{held}
 use Rattle.sqltables.proofs.Held.{none_left}
 use Rattle.sqlquestions.proofs.Compared.{unmoved, Compared, IsNext, none_compared, one_more, all_same, not_same}
-use Rattle.sqltables.proofs.Onward.{failed, followed, succeeded}
+use Rattle.sqltables.proofs.Onward.{failed, followed, same_itself, same_then, succeeded}
 use Rattle.sqlquestions.proofs.ManyQuestions.{unmoved_and, unmoved_goes}
 use Rattle.sqlquestions.proofs.comparing.has_pieces.Goals as goal
 
 pub loop-piece-init : goal.loop-piece-init
 loop-piece-init g c =
     let place : Place = record { box = c.args.in_box.now; name = c.args.name.now } in
-    (refl, none_compared (seen g.T.Ledger.view c.args.tx.now) place (held c.args.bytes.now))
+    (same_itself, none_compared (seen g.T.Ledger.view c.args.tx.now) place (held c.args.bytes.now))
 
 pub loop-piece-preserved : goal.loop-piece-preserved
 loop-piece-preserved g c =
@@ -34,7 +34,7 @@ loop-piece-preserved g c =
       survives = c.is_piece.ensures.rest.survives;
     } in
     let more = one_more entry mid new place bytes c.in-Some.piece.now count c.loop-piece.invariant.1 it cut in
-    (c.is_piece.ensures.rest.same_reference ∙ c.loop-piece.invariant.0, subst (Compared entry new place bytes) (sym number) more)
+    (same_then c.loop-piece.invariant.0 c.is_piece.ensures.rest.same_reference, subst (Compared entry new place bytes) (sym number) more)
 
 pub returns-then-not-branch-clause-found : goal.returns-then-not-branch-clause-found
 returns-then-not-branch-clause-found g c v tables there ours pends size pieces inside clean =

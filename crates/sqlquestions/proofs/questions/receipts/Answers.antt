@@ -4,7 +4,7 @@ use Rattle.sqltables.specs.Inside.{seen}
 use Rattle.sqlite.specs.State.{HasCleanDisk}
 use Rattle.boxes.specs.Rows.{numbered}
 use Rattle.sqlquestions.proofs.ManyQuestions.{unmoved_and, unmoved_goes, unmoved_then, lists_more, lists_all, no_more, digests_at, receipt_at}
-use Rattle.sqltables.proofs.Onward.{failed, followed, succeeded}
+use Rattle.sqltables.proofs.Onward.{failed, followed, same_then, succeeded}
 use Rattle.sqlquestions.proofs.questions.receipts.Goals as goal
 
 pub returns-in_default-clause-found : goal.returns-in_default-clause-found
@@ -36,7 +36,7 @@ loop-tx-preserved g c =
     let first = i.0 in (
       omega (arith, next, first, long),
       omega (arith, low, long),
-      e.rest.same_reference ∙ i.2,
+      same_then i.2 e.rest.same_reference,
       unmoved_then entry mid new i.3 e.rest.running e.rest.uncommitted e.rest.survives e.still,
       λ v tables receipts ours pends listed good inside clean.
           let early : HasCleanDisk mid = omega (arith, e.rest.survives.clean) in

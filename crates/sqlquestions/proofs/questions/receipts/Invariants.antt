@@ -1,6 +1,6 @@
 use Rattle.std.proofs.Common.{◌≡◌, ◌+◌, ◌-◌, ◌≤◌, List, length, slice_get, IsTrue}
 use Rattle.std.specs.List.{AllByRecursion}
-use Rattle.sqltables.specs.Inside.{seen}
+use Rattle.sqltables.specs.Inside.{IsSameLedger, seen}
 use Rattle.sqlite.specs.State.{HasCleanDisk}
 use Rattle.boxes.specs.State.{Receipt}
 use Rattle.boxes.specs.Sound.{IsDigest}
@@ -12,7 +12,7 @@ use Rattle.sqlquestions.proofs.questions.receipts.Given as goal
 
 abbrev pub invariant-loop-tx : goal.invariant-loop-tx
 invariant-loop-tx g l =
-    (l.number ≡ l.from - 1 + length l.rows.items + 1) × (length l.rows.items ≤ l.most) × ((g.T.Ledger.view l.tx).name ≡ (g.T.Ledger.view l.fn.tx).name)
+    (l.number ≡ l.from - 1 + length l.rows.items + 1) × (length l.rows.items ≤ l.most) × IsSameLedger g.T.Ledger.view l.fn.tx l.tx
     × Unmoved (seen g.T.Ledger.view l.fn.tx) (seen g.T.Ledger.view l.tx)
     × ((v : Version) (tables : Tables) (receipts : List Receipt) → IsVersion v → Pends v (seen g.T.Ledger.view l.fn.tx) tables → tables.receipt ≡ slice_get receipts → AllByRecursion (λ r. IsDigest r.digest) receipts
     → IsTrue (seen g.T.Ledger.view l.fn.tx).in_transaction → HasCleanDisk (seen g.T.Ledger.view l.tx) → Lists (l.from - 1) receipts l.rows.items)

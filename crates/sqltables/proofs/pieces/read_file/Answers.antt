@@ -5,6 +5,7 @@ use Rattle.sqltables.specs.Inside.{seen}
 use Rattle.sqlite.specs.State.{HasCleanDisk}
 use Rattle.sqltables.specs.Pieces.{IsAppended}
 use Rattle.sqltables.proofs.Gathering.{Gathered, ReadsNext, OpensOurs, gathers, ours_at, whole_at, no_bytes}
+use Rattle.sqltables.proofs.Onward.{same_then}
 use Rattle.sqltables.proofs.pieces.read_file.Goals as goal
 
 pub loop-bytes-preserved : goal.loop-bytes-preserved
@@ -29,7 +30,7 @@ loop-bytes-preserved g c =
     let less : length bytes < c.args.size = subst (λ n. n < c.args.size) (c.len.ensures ∙ c.loop-bytes.bytes.ok.0) c.loop-bytes-test.true in
     let more : length piece ≡ length after - length bytes = length-drop (length bytes) after in
     let fits : length piece ≡ min (c.args.size - length bytes) 65536 = search rules in
-    (c.append_piece.ensures.rest.same_reference ∙ c.loop-bytes.invariant.0, subst₂ (Gathered entry now place c.args.size) (sym items) (sym count) (gathers entry mid now place c.args.size bytes piece c.loop-bytes.part c.loop-bytes.invariant.1 next less fits))
+    (same_then c.loop-bytes.invariant.0 c.append_piece.ensures.rest.same_reference, subst₂ (Gathered entry now place c.args.size) (sym items) (sym count) (gathers entry mid now place c.args.size bytes piece c.loop-bytes.part c.loop-bytes.invariant.1 next less fits))
 
 pub returns-then-not-is_there-clause-read : goal.returns-then-not-is_there-clause-read
 returns-then-not-is_there-clause-read g c v ours has whole inside clean =

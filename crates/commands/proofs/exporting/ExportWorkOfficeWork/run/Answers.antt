@@ -6,4 +6,4 @@ pub returns-then-is_err : goal.returns-then-is_err
 returns-then-is_err g c = unasked refl looks
 
 pub returns : goal.returns
-returns g c = stood c.export_into.ensures.honest c.export_into.ensures.same c.export_into.ensures.crash (λ s kept. looks s)
+returns g c = stood c.export_into.ensures.honest c.export_into.ensures.group.alone c.export_into.ensures.same c.export_into.ensures.crash (λ s kept. looks s)

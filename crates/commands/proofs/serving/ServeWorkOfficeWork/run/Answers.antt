@@ -9,10 +9,12 @@ pub returns : goal.returns
 returns g c =
     let k = g.K.Keeper in
     let Cached = CachedKeeper g.row.K.Denot in
-    rw c.into_inner.ensures (within
+    rw c.into_inner.ensures.same (within
     (record {
       honest = λ honest. honest;
       before = λ honest. c.new.ensures.honest.0 (subst (λ (x : Cached). k.is_honest x.keeper) c.new-office.ensures honest);
+      ungrouped = λ alone. subst (λ (x : Cached). k.is_alone x.keeper) (sym c.new-office.ensures) (c.new.ensures.alone.1 alone);
+      ungrouped_too = λ alone. alone;
       means = λ s means clean. subst (λ (x : Cached). k.means x.keeper s × (k.is_honest x.keeper → IsSound s → Recalls x.cache s)) (sym c.new-office.ensures) ((c.new.ensures.means s).1 means);
       within = λ s means. means.0;
       alone = λ s means clean alone. record {

@@ -1,4 +1,7 @@
+use Rattle.std.proofs.Common.{subst}
 use Rattle.sqlite.specs.Held.{state}
+use Rattle.sqlkeeper.specs.Grouping.{IsOpenIn}
+use Rattle.sqlkeeper.specs.declared.grouping.Group.{Group}
 use Rattle.dropoffice.proofs.Ended.{clean_open, ours_open, spares_shown, still_sees}
 use Rattle.dropoffice.proofs.file_work.OpenedFileWork.go.Goals as goal
 
@@ -13,17 +16,19 @@ returns-in-Ok-clause-done g c = λ was clean.
     let first = ran.honest honest in
     let (s, keeps, means) = begun.accepts ours first in
     let alone = begun.durable first s means in
+    let is_open = subst (λ (group : Group). IsOpenIn group (state g.S.Store c.in-Ok.keeper.conn)) begun.alone (begun.opened first) in
+    let ungrouped = ran.ungrouped begun.alone in
     let lands = ran.lands s (record { means = means; is_honest = honest; sound = keeps.sound }) (record { alone = alone.alone; whole = alone.whole }) in
     record {
-      early = clean_open g.S.Store c.args.conn shut ((begun.same ours first).was_open (begun.opened first));
+      early = clean_open g.S.Store c.args.conn shut ((begun.same ours first).was_open is_open);
       before = s;
       after = lands.after;
       asked = lands.asked;
       kept = keeps;
-      keeps = (closed.means lands.after).0 lands.left.means;
+      keeps = (closed.means ungrouped lands.after).0 lands.left.means;
       step = lands.step;
-      crash = λ t may. lands.crash t ((closed.leaves t).1 may);
-      whole = closed.whole.0 lands.whole;
+      crash = λ t may. lands.crash t ((closed.leaves ungrouped t).1 may);
+      whole = (closed.whole ungrouped).0 lands.whole;
     }
 
 pub returns-in-Err-clause-undone : goal.returns-in-Err-clause-undone

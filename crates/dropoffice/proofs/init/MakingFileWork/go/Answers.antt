@@ -12,9 +12,9 @@ returns-in-Ok-clause-done g c = λ fit clean.
     record {
       bare = made.bare;
       early = made.early honest;
-      keeps = (closed.means _).0 (made.made fit.from fit.to fit.is_id fit.is_secret);
-      whole = closed.whole.0 alone.whole;
-      alone = λ t may. alone.alone t ((closed.leaves t).1 may);
+      keeps = (closed.means made.alone _).0 (made.made fit.from fit.to fit.is_id fit.is_secret);
+      whole = (closed.whole made.alone).0 alone.whole;
+      alone = λ t may. alone.alone t ((closed.leaves made.alone t).1 may);
     }
 
 pub returns-in-Err-clause-undone : goal.returns-in-Err-clause-undone

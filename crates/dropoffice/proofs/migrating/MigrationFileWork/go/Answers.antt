@@ -18,9 +18,9 @@ returns-in-Ok-clause-done g c = (
         early = begun.early honest;
         office = s;
         kept = file;
-        keeps = (closed.means s).0 means;
-        crash = λ t may. alone.alone t ((closed.leaves t).1 may);
-        whole = closed.whole.0 alone.whole;
+        keeps = (closed.means begun.alone s).0 means;
+        crash = λ t may. alone.alone t ((closed.leaves begun.alone t).1 may);
+        whole = (closed.whole begun.alone).0 alone.whole;
       },
 )
 

@@ -1,6 +1,6 @@
 use Rattle.std.proofs.Common.{Some, subst, sym, arith}
 use Rattle.std.proofs.lemmas.Bool.{both_ways}
-use Rattle.lists.specs.Published.{IsBegun, IsPublished}
+use Rattle.lists.specs.Published.{IsBegun, IsPublished, with_held}
 use Rattle.lists.proofs.Begun.{begun_blank, begun_put, published_put}
 use Rattle.lists.proofs.publisher.Publisher.begin.Goals as goal
 
@@ -20,7 +20,7 @@ returns-in-Ok-clause-means g c = λ s means blank. (
       let text = c.in-Ok.ensures.text s means sound (subst g.K.Keeper.is_honest c.put.ensures.keeper honest) in
       let published = subst (λ t. IsPublished s (Some t)) (sym c.deref.ensures.value) text in (
         begun_put s _ _ _ blank published c.put.ensures.front,
-        λ whole. published_put s _ _ _ blank published (c.put.ensures.added whole),
+        λ whole. subst (λ held. IsPublished s (with_held held (g.S.Sheet.text c.put.new.self.sheet))) (sym c.put.ensures.held) (published_put s _ _ _ blank published (c.put.ensures.added whole)),
       ),
 )
 

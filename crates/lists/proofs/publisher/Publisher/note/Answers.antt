@@ -20,7 +20,7 @@ returns-in-Desk-clause-published g c = λ s after may published whole.
 pub returns-in-SetFile-clause-begun : goal.returns-in-SetFile-clause-begun
 returns-in-SetFile-clause-begun g c = λ s after may published begun.
     let is = subst (λ (ch : Change). MayChange s ch after) c.in-SetFile.is may in
-    begun_set s after _ is.0 _ _ _ is.2 published begun (c.add.ensures.front is.2.taken.brought.moment)
+    begun_set s after _ is.0 c.args.self.now.held _ _ _ is.2 published begun (c.add.ensures.front is.2.taken.brought.moment)
 
 pub returns-in-Desk-clause-begun : goal.returns-in-Desk-clause-begun
 returns-in-Desk-clause-begun g c = λ s after may published begun.

@@ -1,6 +1,7 @@
 use Rattle.std.proofs.Common.{subst, sym, arith}
 use Rattle.shelf.proofs.Answered.{on_err_more, on_ok_more}
 use Rattle.lists.proofs.Added.{may_change}
+use Rattle.lists.proofs.PassedOn.{noted_group, passed_group}
 use Rattle.lists.proofs.publishes.PublisherKeeper.apply.Goals as goal
 
 pub returns-then-is_ok-clause-made : goal.returns-then-is_ok-clause-made
@@ -27,6 +28,17 @@ returns-then-is_ok-clause-durable g c = λ s after m sound is honest.
       alone = λ t l. it.alone t (subst (λ k. g.K.Keeper.leaves k t) same l);
       whole = subst g.K.Keeper.leaves_whole (sym same) it.whole;
     })
+
+pub returns-then-is_ok-clause-group : goal.returns-then-is_ok-clause-group
+returns-then-is_ok-clause-group g c =
+    let old = c.args.self.now in
+    let asked = c.apply-done.new.self in
+    let first = passed_group g.K.Keeper old asked c.apply-done.ensures.group c.apply-done.ensures.honest in
+    let second = noted_group g.K.Keeper (record old { keeper = asked }) c.note.new.self c.note.ensures.keeper c.note.ensures.whole c.note.ensures.alone c.note.ensures.group in
+    record { alone = λ alone. second.alone (first.alone alone); same = λ begun held. second.same begun (first.same begun held) }
+
+pub returns-else-is_ok-clause-group : goal.returns-else-is_ok-clause-group
+returns-else-is_ok-clause-group g c = passed_group g.K.Keeper c.args.self.now c.apply-done.new.self c.apply-done.ensures.group c.apply-done.ensures.honest
 
 pub returns-else-is_ok-clause-full : goal.returns-else-is_ok-clause-full
 returns-else-is_ok-clause-full g c = λ s after m sound is. c.apply-done.ensures.full s after m.0 sound is

@@ -65,10 +65,10 @@ pub returns-in-Err-clause-same : goal.returns-in-Err-clause-same
 returns-in-Err-clause-same g c = c.look_at.ensures.rest.same
 
 pub returns-in-Ok-apply-clause-rest : goal.returns-in-Ok-apply-clause-rest
-returns-in-Ok-apply-clause-rest g c = holds_then (asked_holds g.K.Keeper _ _ _ c.in-Ok.ensures.rest) (holds_less (λ is. absurd is) (changed_holds (Ok tt) c.in-Ok-apply.ensures.honest c.in-Ok-apply.ensures.opened c.in-Ok-apply.ensures.count))
+returns-in-Ok-apply-clause-rest g c = holds_then (asked_holds g.K.Keeper _ _ _ c.in-Ok.ensures.rest) (holds_less (λ is. absurd is) (changed_holds (Ok tt) c.in-Ok-apply.ensures.honest c.in-Ok-apply.ensures.opened c.in-Ok-apply.ensures.count c.in-Ok-apply.ensures.group))
 
 pub returns-clause-rest : goal.returns-clause-rest
-returns-clause-rest g c = holds_then (asked_holds g.K.Keeper _ _ _ c.in-Ok.ensures.rest) (holds_less (λ _. tt) (changed_holds {T = Unit {0}} (Err c.in-Err-apply.fault) c.in-Err-apply.ensures.honest c.in-Err-apply.ensures.opened c.in-Err-apply.ensures.count))
+returns-clause-rest g c = holds_then (asked_holds g.K.Keeper _ _ _ c.in-Ok.ensures.rest) (holds_less (λ _. tt) (changed_holds {T = Unit {0}} (Err c.in-Err-apply.fault) c.in-Err-apply.ensures.honest c.in-Err-apply.ensures.opened c.in-Err-apply.ensures.count c.in-Err-apply.ensures.group))
 
 pub returns-clause-same : goal.returns-clause-same
 returns-clause-same g c = λ s means. c.in-Err-apply.ensures.same s (c.look_at.ensures.rest.same s means)

@@ -1,6 +1,7 @@
 use borrow.Author.Rules.{scaled_Fits}
 use Rattle.std.proofs.Common.{◌≡◌, ◌+◌, ◌<◌, ◌∙◌, cond, inl, length, refl, sym, ap, arith}
 use Rattle.wire.specs.Ends.{is_fault}
+use Rattle.office.proofs.Holding.{group_still, group_then}
 use Rattle.office.proofs.KeeperCalls.{unstaged_then}
 use Rattle.office.proofs.RunSoFar.{starts, goes_on, others_stay, finishes}
 use Rattle.office.proofs.office.Office.run.Goals as goal
@@ -15,6 +16,7 @@ connections-init g c = (
   omega arith,
   omega arith,
   λ none. inl none,
+  group_still,
 )
 
 pub connections-preserved : goal.connections-preserved
@@ -41,6 +43,7 @@ connections-preserved g c =
       elim c.if-is_fault.branch [ then-is_fault w ↦ omega arith | else-is_fault w ↦ omega arith ],
       omega (arith, c.connections.invariant.4, c.session-end.ensures.rest.never_less),
       unstaged_then g.K.Keeper c.args.self.now.keeper c.connections.self.keeper c.session-end.new.self.keeper c.connections.invariant.5 c.connections.invariant.4 c.session-end.ensures.unstaged c.session-end.ensures.rest.never_less,
+      group_then c.connections.invariant.6 c.session-end.ensures.rest.group,
     )
 
 pub returns-clause-runs : goal.returns-clause-runs
@@ -51,6 +54,9 @@ returns-clause-runs g c s kept =
 
 pub returns-clause-honest : goal.returns-clause-honest
 returns-clause-honest g c = c.connections.invariant.1
+
+pub returns-clause-group : goal.returns-clause-group
+returns-clause-group g c = c.connections.invariant.6
 
 pub returns-clause-never_less : goal.returns-clause-never_less
 returns-clause-never_less g c = c.connections.invariant.4

@@ -1,4 +1,5 @@
 use Rattle.std.proofs.Common.{◌≡◌, ◌≤◌, drop}
+use Rattle.boxes.specs.Keeping.{KeepsGroup}
 use Rattle.boxes.specs.State.{State}
 use Rattle.office.specs.Premise.{StaysUnstaged, WasKept}
 use Rattle.office.proofs.RunSoFar.{SoFar}
@@ -14,3 +15,4 @@ invariant-connections g l =
     × (l.faulty ≤ l.connection-index)
     × (g.K.Keeper.faults l.fn.self.keeper ≤ g.K.Keeper.faults l.self.keeper)
     × StaysUnstaged g.K.Keeper l.fn.self.keeper l.self.keeper
+    × KeepsGroup g.K.Keeper.is_alone g.K.Keeper.gathers l.fn.self.keeper l.self.keeper

@@ -5,6 +5,7 @@ use Rattle.wire.specs.declared.crowding.Due.{Due}
 use Rattle.wire.proofs.Changing.{among_turned}
 use Rattle.wire.proofs.Ties.{none_is}
 use Rattle.office.proofs.CrowdTurns.{CrowdSoFar, changes_more, crowd_ends, crowd_starts, turned_more}
+use Rattle.office.proofs.Holding.{group_still, group_then}
 use Rattle.office.proofs.KeeperCalls.{unstaged_then}
 use Rattle.office.proofs.office.Office.serve_crowd.Goals as goal
 use Rattle.office.proofs.office.Office.serve_crowd.Goals.{then-turned, else-turned}
@@ -30,6 +31,7 @@ turns-init g c = (
   omega arith,
   λ none. inl none,
   omega arith,
+  group_still,
 )
 
 pub overflow_add-faulty : goal.overflow_add-faulty
@@ -108,7 +110,11 @@ turns-preserved g c =
         | then-turned w ↦ omega (arith, j.4, w.faulty-is, c.in-Some.ensures.counts)
         | else-turned w ↦ omega (arith, j.4, w.faulty-is, c.in-Some.ensures.counts)
       ],
+      group_then j.5 turned.group,
     )
+
+pub returns-clause-alone : goal.returns-clause-alone
+returns-clause-alone g c = c.turns.invariant.5.alone
 
 pub returns-clause-never_less : goal.returns-clause-never_less
 returns-clause-never_less g c = grind arith

@@ -1,4 +1,5 @@
 use Rattle.std.proofs.Common.{◌≡◌, ◌≤◌, ◌+◌, ◌++◌, ℕ, List, None, length}
+use Rattle.boxes.specs.Keeping.{KeepsGroup}
 use Rattle.boxes.specs.State.{State}
 use Rattle.office.specs.Premise.{IsLeft, StaysUnstaged, WasKept}
 use Rattle.wire.specs.declared.seat.Seat.{Seat}
@@ -21,6 +22,7 @@ invariant-turns g l =
     × (g.K.Keeper.faults l.fn.self.keeper ≤ g.K.Keeper.faults l.self.keeper)
     × StaysUnstaged g.K.Keeper l.fn.self.keeper l.self.keeper
     × (l.faulty + g.G.Crowd.turns l.crowd ≤ g.G.Crowd.turns l.fn.crowd)
+    × KeepsGroup g.K.Keeper.is_alone g.K.Keeper.gathers l.fn.self.keeper l.self.keeper
 
 abbrev pub decreases-turns : goal.decreases-turns
 decreases-turns g l = g.G.Crowd.turns l.crowd

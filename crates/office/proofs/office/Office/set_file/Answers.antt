@@ -24,10 +24,10 @@ pub returns-in-Err-clause-unstaged : goal.returns-in-Err-clause-unstaged
 returns-in-Err-clause-unstaged g c = inr c.in-Err.ensures.count.err
 
 pub returns-in-Ok-clause-rest : goal.returns-in-Ok-clause-rest
-returns-in-Ok-clause-rest g c = holds_less (λ is. absurd is) (changed_holds (Ok tt) c.in-Ok.ensures.honest c.in-Ok.ensures.opened c.in-Ok.ensures.count)
+returns-in-Ok-clause-rest g c = holds_less (λ is. absurd is) (changed_holds (Ok tt) c.in-Ok.ensures.honest c.in-Ok.ensures.opened c.in-Ok.ensures.count c.in-Ok.ensures.group)
 
 pub returns-in-Err-clause-rest : goal.returns-in-Err-clause-rest
-returns-in-Err-clause-rest g c = holds_less (λ _. refl) (changed_holds {T = Unit {0}} (Err _) c.in-Err.ensures.honest c.in-Err.ensures.opened c.in-Err.ensures.count)
+returns-in-Err-clause-rest g c = holds_less (λ _. refl) (changed_holds {T = Unit {0}} (Err _) c.in-Err.ensures.honest c.in-Err.ensures.opened c.in-Err.ensures.count c.in-Err.ensures.group)
 
 pub returns-in-Err-clause-same : goal.returns-in-Err-clause-same
 returns-in-Err-clause-same g c = c.in-Err.ensures.same

@@ -24,6 +24,9 @@ returns-clause-honest g c = c.turn_slot.ensures.honest
 pub returns-clause-unstaged : goal.returns-clause-unstaged
 returns-clause-unstaged g c = c.turn_slot.ensures.unstaged
 
+pub returns-clause-group : goal.returns-clause-group
+returns-clause-group g c = c.turn_slot.ensures.group
+
 pub returns-clause-never_less : goal.returns-clause-never_less
 returns-clause-never_less g c = c.turn_slot.ensures.never_less
 

@@ -3,6 +3,7 @@ use Rattle.std.specs.Prelude.{is_some, not}
 use Rattle.office.specs.Crowds.{TurnsSlot, nobody, fails_now, is_fault_end}
 use Rattle.wire.specs.declared.seat.Seat.{Seat}
 use Rattle.office.proofs.CrowdTurns.{fails_open, fails_closed, taken_by}
+use Rattle.office.proofs.Holding.{group_still}
 use Rattle.office.proofs.office.Office.turn_slot.Goals as goal
 use Rattle.office.proofs.office.Office.turn_slot.Goals.{then-was_open, else-was_open}
 
@@ -37,3 +38,9 @@ returns-clause-honest g c = grind arith
 
 pub returns-in_default-clause-unstaged : goal.returns-in_default-clause-unstaged
 returns-in_default-clause-unstaged g c = grind arith
+
+pub returns-in_default-clause-group : goal.returns-in_default-clause-group
+returns-in_default-clause-group g c = group_still
+
+pub returns-clause-group : goal.returns-clause-group
+returns-clause-group g c = c.take_turn-spare.ensures.rest.group

@@ -6,7 +6,7 @@ use Rattle.boxes.proofs.SoundFirstState.{sound_first_state}
 use Rattle.sqltables.specs.Schema.{s0, v2}
 use Rattle.sqltables.specs.Means.{Means, LeavesOnly, AddsOnly, IsBare}
 use Rattle.sqlkeeper.proofs.AtRest.{bare_of}
-use Rattle.sqlkeeper.proofs.Stays.{left_alone}
+use Rattle.sqlkeeper.proofs.GroupMade.{left_alone}
 use Rattle.sqlkeeper.proofs.file_keeper.SqlKeeper.create.Goals as goal
 
 few : (allowance seconds : ℕ) → seconds ≡ allowance → seconds ≤ most_allowance → allowance ≤ most_allowance
@@ -30,7 +30,8 @@ returns-in-Ok-create-clause-durable g c west east is_id is_secret clean =
     let after = first_state c.args.office.east c.args.office.allowance c.args.id.now c.args.secret.now in
     let same : to_z w16 (of_z w16 c.args.office.east) ≡ c.args.office.east = search rules in
     let only = subst (λ id. LeavesOnly v2 end (first_state (to_z w16 (of_z w16 c.args.office.east)) c.args.office.allowance id c.args.secret.now)) c.in-Ok.ensures.cases.0 (c.in-Ok-create.ensures.durable bare) in
-    left_alone (λ k. state g.S.Store k.conn) _ after (sound_first_state c.args.office.east c.args.office.allowance c.args.id.now c.args.secret.now west east (few c.args.office.allowance c.seconds.result c.seconds.ensures.value c.seconds.ensures.bound) is_id is_secret) clean (c.in-Ok-create.ensures.opened clean).1 (subst (λ n. LeavesOnly v2 end (first_state n c.args.office.allowance c.args.id.now c.args.secret.now)) same only)
+    let it = left_alone end after (sound_first_state c.args.office.east c.args.office.allowance c.args.id.now c.args.secret.now west east (few c.args.office.allowance c.seconds.result c.seconds.ensures.value c.seconds.ensures.bound) is_id is_secret) clean (c.in-Ok-create.ensures.opened clean).1 (subst (λ n. LeavesOnly v2 end (first_state n c.args.office.allowance c.args.id.now c.args.secret.now)) same only) in
+    record { there = it.there; alone = it.alone; whole = it.whole }
 
 pub returns-in-Err-clause-crash : goal.returns-in-Err-clause-crash
 returns-in-Err-clause-crash g c =

@@ -5,7 +5,7 @@ use Rattle.sqlkeeper.specs.Versions.{IsOfficeFile}
 use Rattle.sqlkeeper.proofs.AtRest.{leaves_kept}
 use Rattle.sqlkeeper.proofs.Migrated.{first_is_whole, second_is_whole, second_means, first_found, first_means, not_first, not_second, adds_still, spares_still, untouched_never, looks_still}
 use Rattle.sqlkeeper.proofs.Reopened.{accepted, emptied, failed, others, spared, spares}
-use Rattle.sqlkeeper.proofs.Stays.{left_alone}
+use Rattle.sqlkeeper.proofs.GroupMade.{left_alone}
 use Rattle.sqlkeeper.proofs.file_keeper.SqlKeeper.migrate.Goals as goal
 
 -- ---- a file of version 2 whose table `staged` was emptied
@@ -56,8 +56,9 @@ returns-in-Ok-clause-spared g c ours none other =
 pub returns-in-Ok-clause-durable : goal.returns-in-Ok-clause-durable
 returns-in-Ok-clause-durable g c clean s keeps =
     let end = state g.S.Store c.empty_file.new.conn in
-    left_alone (λ k. state g.S.Store k.conn) _ s keeps.sound clean (c.in-Ok.ensures.opened clean).1
-    (leaves_kept end s (c.in-Ok.ensures.opened clean).0 (λ db. g.met.S.Store.settled c.empty_file.new.conn.store db (c.in-Ok.ensures.opened clean).0) keeps.means)
+    let it = left_alone end s keeps.sound clean (c.in-Ok.ensures.opened clean).1
+    (leaves_kept end s (c.in-Ok.ensures.opened clean).0 (λ db. g.met.S.Store.settled c.empty_file.new.conn.store db (c.in-Ok.ensures.opened clean).0) keeps.means) in
+    record { there = it.there; alone = it.alone; whole = it.whole }
 
 pub returns-in-Err-empty_file-clause-crash : goal.returns-in-Err-empty_file-clause-crash
 returns-in-Err-empty_file-clause-crash g c s is =
@@ -114,8 +115,9 @@ pub returns-in-Ok-upgrade_file-clause-durable : goal.returns-in-Ok-upgrade_file-
 returns-in-Ok-upgrade_file-clause-durable g c clean s keeps =
     let end = state g.S.Store c.upgrade_file.new.conn in
     let is_open : IsTrue end.is_open = (c.in-Ok-upgrade_file.ensures.opened clean).0 in
-    left_alone (λ k. state g.S.Store k.conn) _ s keeps.sound clean (c.in-Ok-upgrade_file.ensures.opened clean).1
-    (leaves_kept end s is_open (λ db. g.met.S.Store.settled c.upgrade_file.new.conn.store db is_open) keeps.means)
+    let it = left_alone end s keeps.sound clean (c.in-Ok-upgrade_file.ensures.opened clean).1
+    (leaves_kept end s is_open (λ db. g.met.S.Store.settled c.upgrade_file.new.conn.store db is_open) keeps.means) in
+    record { there = it.there; alone = it.alone; whole = it.whole }
 
 pub returns-in-Err-upgrade_file-clause-crash : goal.returns-in-Err-upgrade_file-clause-crash
 returns-in-Err-upgrade_file-clause-crash g c s is =

@@ -6,7 +6,7 @@ use Rattle.sqlaudit.specs.Opened.{IsFound}
 use Rattle.sqlkeeper.proofs.AtRest.{sound_is_whole, leaves_kept}
 use Rattle.sqlkeeper.proofs.Migrated.{looks_still}
 use Rattle.sqlkeeper.proofs.Reopened.{accepted, crashes, emptied, failed, means_still, others, spared, spares}
-use Rattle.sqlkeeper.proofs.Stays.{left_alone}
+use Rattle.sqlkeeper.proofs.GroupMade.{left_alone}
 use Rattle.sqlkeeper.proofs.file_keeper.SqlKeeper.open.Goals as goal
 
 -- ---- a sound file whose table `staged` was emptied
@@ -58,8 +58,9 @@ returns-in-Ok-clause-crash g c ours =
 pub returns-in-Ok-clause-durable : goal.returns-in-Ok-clause-durable
 returns-in-Ok-clause-durable g c clean s keeps =
     let end = state g.S.Store c.empty_file.new.conn in
-    left_alone (λ k. state g.S.Store k.conn) _ s keeps.sound clean (c.in-Ok.ensures.opened clean).1
-    (leaves_kept end s (c.in-Ok.ensures.opened clean).0 (λ db. g.met.S.Store.settled c.empty_file.new.conn.store db (c.in-Ok.ensures.opened clean).0) keeps.means)
+    let it = left_alone end s keeps.sound clean (c.in-Ok.ensures.opened clean).1
+    (leaves_kept end s (c.in-Ok.ensures.opened clean).0 (λ db. g.met.S.Store.settled c.empty_file.new.conn.store db (c.in-Ok.ensures.opened clean).0) keeps.means) in
+    record { there = it.there; alone = it.alone; whole = it.whole }
 
 -- ---- a sound file whose table `staged` could not be emptied
 

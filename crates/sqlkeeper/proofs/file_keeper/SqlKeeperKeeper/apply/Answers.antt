@@ -1,36 +1,26 @@
 use Rattle.std.proofs.Common.{sym, ◌∙◌, arith}
 use Rattle.std.proofs.lemmas.Bool.{false≢true}
-use Rattle.sqlite.specs.Held.{state}
 use Rattle.boxes.proofs.Staging.{may_change}
-use Rattle.sqltables.specs.Kept.{KeepsState}
-use Rattle.sqlkeeper.proofs.Stays.{ok_too, err_too, alone, either, kept_then, kept_at_error}
-use Rattle.sqltables.proofs.Results.{at_answer, at_error}
+use Rattle.sqltables.proofs.Results.{at_answer}
+use Rattle.sqlkeeper.proofs.Stays.{err_carried, ok_carried}
 use Rattle.sqlkeeper.proofs.file_keeper.SqlKeeperKeeper.apply.Goals as goal
 
 pub returns-clause-made : goal.returns-clause-made
-returns-clause-made g c s after keeps sound change =
-    let end = state g.S.Store c.apply_change.new.conn in
-    let may = may_change _ s after c.args.change.now change in
-    ok_too (λ k. state g.S.Store k.conn) (λ k. k.faults) c.args.self.now (record { conn = c.apply_change.new.conn; staged = c.unstage.new.staged; faults = c.counted-answer.new.faults; alloc = c.args.self.now.alloc }) c.apply_change.result c.counted-answer.result c.counted-answer.ensures.value c.counted-answer.ensures.fault
-    (KeepsState end after) (kept_then end after c.apply_change.result (c.law_of_changes.ensures s after c.args.change.now sound may) (c.apply_change.ensures.made s after keeps.means sound change))
+returns-clause-made g c s after means sound change =
+    ok_carried c.make-made.result c.counted-answer.result c.counted-answer.ensures.value (c.make-made.ensures.made s after means sound change (c.law_of_changes.ensures s after c.args.change.now sound (may_change _ s after c.args.change.now change))) (λ m. m)
 
 pub returns-clause-same : goal.returns-clause-same
-returns-clause-same g c s keeps =
-    let end = state g.S.Store c.apply_change.new.conn in
-    err_too (λ k. state g.S.Store k.conn) (λ k. k.faults) c.args.self.now (record { conn = c.apply_change.new.conn; staged = c.unstage.new.staged; faults = c.counted-answer.new.faults; alloc = c.args.self.now.alloc }) c.apply_change.result c.counted-answer.result c.counted-answer.ensures.value c.counted-answer.ensures.fault
-    (KeepsState end s) (kept_at_error end s c.apply_change.result keeps.sound (c.apply_change.ensures.kept s keeps.means))
+returns-clause-same g c s means = err_carried c.make-made.result c.counted-answer.result c.counted-answer.ensures.fault (c.make-made.ensures.same s means) (λ m. m)
 
 pub returns-clause-durable : goal.returns-clause-durable
-returns-clause-durable g c s after keeps sound change clean =
-    let may = may_change _ s after c.args.change.now change in
-    alone (λ k. state g.S.Store k.conn) (λ k. k.faults) c.args.self.now (record { conn = c.apply_change.new.conn; staged = c.unstage.new.staged; faults = c.counted-answer.new.faults; alloc = c.args.self.now.alloc }) c.apply_change.result c.counted-answer.result c.counted-answer.ensures.value c.counted-answer.ensures.fault
-    after (c.law_of_changes.ensures s after c.args.change.now sound may) clean (c.apply_change.ensures.opened clean) (c.apply_change.ensures.durable s after keeps.means sound change)
+returns-clause-durable g c s after means sound change clean =
+    ok_carried c.make-made.result c.counted-answer.result c.counted-answer.ensures.value (c.make-made.ensures.durable s after means sound change (c.law_of_changes.ensures s after c.args.change.now sound (may_change _ s after c.args.change.now change)) clean)
+    (λ only. record { there = only.there; alone = only.alone; whole = only.whole })
 
 pub returns-clause-crash : goal.returns-clause-crash
-returns-clause-crash g c s after keeps sound change clean =
-    let may = may_change _ s after c.args.change.now change in
-    at_error c.counted-answer.result (either (λ k. state g.S.Store k.conn) (λ k. k.faults) c.args.self.now (record { conn = c.apply_change.new.conn; staged = c.unstage.new.staged; faults = c.counted-answer.new.faults; alloc = c.args.self.now.alloc }) c.apply_change.result c.counted-answer.result c.counted-answer.ensures.value c.counted-answer.ensures.fault
-    s after (c.law_of_changes.ensures s after c.args.change.now sound may) clean (c.apply_change.ensures.honest clean) (c.apply_change.ensures.crash s after keeps.means sound change))
+returns-clause-crash g c s after means sound change clean =
+    err_carried c.make-made.result c.counted-answer.result c.counted-answer.ensures.fault (c.make-made.ensures.crash s after means sound change (c.law_of_changes.ensures s after c.args.change.now sound (may_change _ s after c.args.change.now change)) clean)
+    (λ one. record { either = one.either; whole = one.whole })
 
 -- ---- room for one more receipt
 
